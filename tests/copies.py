@@ -67,6 +67,12 @@ def asked(stores, answer, *words):
     return run.returncode, run.stdout.decode().splitlines(), run.stderr.decode()
 
 
+def compacted(stores, content):
+    stores.write(content)
+    stores.ask("compact")
+    return stores.bytes()
+
+
 def adopted(stores, record_of, whole):
     whole(stores)
     stores.append(folders(record_of, 6))
@@ -80,6 +86,9 @@ def adopted(stores, record_of, whole):
         before = gates.index(last)
         stores.write(cut)
         told = asked(stores, b"", "--yes")
+        if before == 0:
+            right += (told[0], told[1][-1], stores.bytes()) == (1, "not adopted: no record stands before it", cut)
+            continue
         wanted = content[:last] + b"shutgate" + content[last + 8 : end]
         good = told[0] == 0 and told[1][-1] == f"adopted: {before} records, {last} bytes" and stores.bytes() == wanted
         right += good and stores.ask("check")[1][0].startswith(f"whole: {before} records, {last} bytes")
@@ -99,6 +108,8 @@ def adopted(stores, record_of, whole):
         ("an empty file", b"", "nothing is to be adopted"),
         ("a text", b"no store at all, but a text", "not a journal"),
         ("a part of a header", content[:20], "damaged at byte 0"),
+        ("a part of the first round", content[: gates[1] - 5], "not adopted: no record stands before it"),
+        ("a part of a compacted store", compacted(stores, content)[:100], "not adopted: no record stands before it"),
         ("a wrong byte before whole rounds", content[:at] + bytes([content[at] ^ 1]) + content[at + 1 :], "not adopted: whole rounds stand behind it"),
     )
     for name, wrong, wanted in refused:

@@ -43,13 +43,13 @@ pub fn end_of<O: Write + Drop>(
     if !is_at_gate(&broken.error, place) {
         return Ok(None);
     }
-    if broken.records == 0 {
-        writeln!(output, "not adopted: no record stands before it")?;
-        return Ok(None);
-    }
     let mut tail = Tail::of(rt, path, header.key, place)?;
     if tail.next_round().is_some() {
         writeln!(output, "not adopted: whole rounds stand behind it")?;
+        return Ok(None);
+    }
+    if broken.records == 0 {
+        writeln!(output, "not adopted: no record stands before it")?;
         return Ok(None);
     }
     Ok(Some(End {

@@ -55,9 +55,25 @@ fn run_as(rt: &HostRuntime, words: &[String]) -> ExitCode {
     }
     match Choices::of(rt.alloc(), words) {
         Ok(mut choices) => told_end(rt, &serve_chosen(rt, &mut choices)),
-        Err(Unread::OutOfMemory) => no_memory(rt),
-        Err(Unread::Usage) => usage(rt),
+        Err(unread) => told_unread(rt, &unread),
     }
+}
+
+// Tells which word is wrong, where one is, and the usage.
+fn told_unread(rt: &HostRuntime, unread: &Unread) -> ExitCode {
+    let _written = match unread {
+        Unread::OutOfMemory => return no_memory(rt),
+        Unread::Usage => Ok(()),
+        Unread::Unknown(word) if word.starts_with("--") => {
+            writeln!(rt.stderr(), "{word} is no option of davserve")
+        }
+        Unread::Unknown(word) => writeln!(
+            rt.stderr(),
+            "{word} is no option of davserve, which serves no folder: davstore import puts one into a store"
+        ),
+        Unread::Value(name) => writeln!(rt.stderr(), "{name} needs another value"),
+    };
+    usage(rt)
 }
 
 // Whether one of the words is `--help`.

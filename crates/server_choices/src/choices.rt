@@ -40,10 +40,14 @@ pub struct Compacting {
 }
 
 /// Why the words choose nothing.
-#[derive(Clone, Copy)]
+#[derive(Drop)]
 pub enum Unread {
     /// They aren't of the program's form.
     Usage,
+    /// This word stands where an option does, and is none.
+    Unknown(String),
+    /// The option of this name has no value, or one that it can't have.
+    Value(String),
     /// There is no memory for them.
     OutOfMemory,
 }
@@ -118,7 +122,7 @@ pub struct Choices {
 
 impl Choices {
     /// Perhaps `--one` or `--login`, and behind it `--read-only`, which has no value, and options, each with its value, in any order; of one that comes twice the last counts. `OutOfMemory`
-    /// where there is no memory for it. `Usage` where a word is none of these, or a value is missing or isn't one; and where stores that a file keeps meet `--one` or a seed, or nothing is kept and it is to be synced each second, users `--one` or
+    /// where there is no memory for it. `Unknown` where a word is none of these, `Value` where a value is missing or isn't one; and `Usage` where stores that a file keeps meet `--one` or a seed, or nothing is kept and it is to be synced each second, users `--one` or
     /// a header that names the principal, a file of users `--login`, or `--read-only` or a log `--one`.
     pub fn of(alloc: Global, words: &[String]) -> Result<Choices, Unread> {
         let mut choices = Choices::unsaid(alloc)?;
@@ -196,18 +200,33 @@ impl Choices {
             }
         }
         match name {
-            Some(_) => Err(Unread::Usage),
+            Some(last) if last.starts_with("--") => Err(Unread::Value(String::from_str(
+                alloc, last,
+            )?)),
+            Some(last) => Err(Unread::Unknown(String::from_str(alloc, last)?)),
             None => Ok(()),
         }
     }
 
+    // Sets the option of a name. `Unknown` where there is none, `Value` where it can't have the value.
     fn set(&mut self, alloc: Global, name: &str, value: &str) -> Result<(), Unread> {
-        let is_known = self.set_address(alloc, name, value)?
-            || self.set_limit(name, value)?
-            || self.set_store(alloc, name, value)?
-            || self.set_client(alloc, name, value)?
-            || self.set_test(name, value)?;
-        if is_known { Ok(()) } else { Err(Unread::Usage) }
+        match self.set_known(alloc, name, value) {
+            Ok(true) => Ok(()),
+            Ok(false) => Err(Unread::Unknown(String::from_str(alloc, name)?)),
+            Err(Unread::Usage) => Err(Unread::Value(String::from_str(alloc, name)?)),
+            Err(error) => Err(error),
+        }
+    }
+
+    // Whether the name is that of an option; its value is set then.
+    fn set_known(&mut self, alloc: Global, name: &str, value: &str) -> Result<bool, Unread> {
+        Ok(
+            self.set_address(alloc, name, value)?
+                || self.set_limit(name, value)?
+                || self.set_store(alloc, name, value)?
+                || self.set_client(alloc, name, value)?
+                || self.set_test(name, value)?,
+        )
     }
 
     // Whether the name is that of an option for what URLs and their fields have; its value is set then.
@@ -233,13 +252,13 @@ impl Choices {
         } else if name == "--longest-timeout" {
             self.longest_timeout = Some(value.parse()?);
         } else if name == "--max-body" {
-            self.max_body = value.parse()?;
+            self.max_body = length_of(value)?;
         } else if name == "--window" {
             self.window = window_of(value)?;
         } else if name == "--waiting" {
-            self.waiting = value.parse()?;
+            self.waiting = size_of(value)?;
         } else if name == "--unfinished" {
-            self.unfinished = value.parse()?;
+            self.unfinished = size_of(value)?;
         } else {
             return Ok(false);
         }
@@ -253,7 +272,7 @@ impl Choices {
         } else if name == "--sync" {
             self.sync = sync_of(value)?;
         } else if name == "--compact-over" {
-            self.compacting.over = value.parse()?;
+            self.compacting.over = size_of(value)?;
         } else if name == "--compact-useless" {
             self.compacting.useless = share_of(value)?;
         } else {
@@ -340,9 +359,39 @@ fn header_of(alloc: Global, word: &str) -> Result<HeaderName, Unread> {
 
 // The window that a word names. `Usage` where it is none, or 0, through which nothing would go.
 fn window_of(word: &str) -> Result<u64, Unread> {
-    match word.parse()? {
+    match size_of(word)? {
         0 => Err(Unread::Usage),
         window => Ok(window),
+    }
+}
+
+// The bytes that a word names: a number, with `K`, `M` or `G` behind it for so many times 1,024, 1,024 squared or cubed. `Usage` where it is none, or too large.
+fn size_of(word: &str) -> Result<u64, Unread> {
+    if let Some(digits) = word.strip_suffix('K') {
+        return times(digits, 1024);
+    }
+    if let Some(digits) = word.strip_suffix('M') {
+        return times(digits, 1024 * 1024);
+    }
+    if let Some(digits) = word.strip_suffix('G') {
+        return times(digits, 1024 * 1024 * 1024);
+    }
+    Ok(word.parse()?)
+}
+
+fn times(digits: &str, unit: u64) -> Result<u64, Unread> {
+    let count: u64 = digits.parse()?;
+    match count.checked_mul(unit) {
+        Some(bytes) => Ok(bytes),
+        None => Err(Unread::Usage),
+    }
+}
+
+// The same of what is kept in memory at once.
+fn length_of(word: &str) -> Result<usize, Unread> {
+    match usize::try_from(size_of(word)?) {
+        Ok(length) => Ok(length),
+        Err(_) => Err(Unread::Usage),
     }
 }
 

@@ -21,7 +21,7 @@ It runs what was proved on this machine, or else the release in this repository.
   --realm TEXT                    what a client is told it logs in to; davserve without it
   --longest-timeout SECONDS       the longest time that a lock is given; without it a lock may last for ever
   --propfind-depth finite|infinite    whether a PROPFIND of infinite depth is refused
-  --max-body BYTES                the most bytes that a request's body may have; here, and for --window, --waiting, --unfinished and --compact-over, K, M or G may stand behind the number, as 200M
+  --max-body BYTES                the most bytes that a request's body may have; here, and for --waiting, --unfinished and --compact-over, K, M or G may stand behind the number, as 200M
   --window BYTES                  how far answers go beyond what a client has taken; 262144 without it
   --waiting BYTES                 the most bytes of answers that wait, of all clients; 268435456 without it
   --unfinished BYTES              the most bytes of requests that have not come whole, of all clients; 268435456 without it

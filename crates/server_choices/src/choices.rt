@@ -359,7 +359,7 @@ fn header_of(alloc: Global, word: &str) -> Result<HeaderName, Unread> {
 
 // The window that a word names. `Usage` where it is none, or 0, through which nothing would go.
 fn window_of(word: &str) -> Result<u64, Unread> {
-    match size_of(word)? {
+    match word.parse()? {
         0 => Err(Unread::Usage),
         window => Ok(window),
     }

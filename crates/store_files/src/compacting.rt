@@ -9,7 +9,9 @@ ghost use Rattle.dav_store_core.specs.StandingFor.{HaveRecords};
 ghost use Rattle.store_files.specs.WrittenStores.{IsOnDisk};
 
 use crate::error::Uncompacted;
-use crate::placing::{clear, draft_of, find_free, in_the_way, is_new, make_like, sync_folder};
+use crate::placing::{
+    clear, clear_log, draft_of, find_free, in_the_way, is_new, make_like, sync_folder,
+};
 use dav_store_core::{Opened, StoreError, Watch, compact, load};
 use journal_core::{Header, Journal, Reader};
 use journal_file::open;
@@ -195,6 +197,7 @@ fn write_anew<S: Start, B>(
     if found.is_some() {
         return Err(in_the_way(rt, new)?);
     }
+    clear_log(rt, new)?;
     let lengths = write_over(rt, old, new, &mut journal, header, opened, note)?;
     Ok(Compacted {
         journal,

@@ -38,8 +38,8 @@ pub fn clear_draft<D: Disk, B>(
     clear_log(rt, draft.as_str())
 }
 
-// Removes the log that the kit makes beside a file as it is opened, where it has no byte.
-fn clear_log(rt: &HostRuntime, path: &str) -> Result<(), Uncompacted> {
+// Removes the log that the kit makes beside a file as it is opened, where it has no byte. The kit removes it, too, but does not tell where that fails.
+pub(crate) fn clear_log(rt: &HostRuntime, path: &str) -> Result<(), Uncompacted> {
     let log = format!(in rt.alloc(); "{path}-wal")?;
     match fs::symlink_metadata(rt, log.as_str()) {
         Ok(found) if found.is_file() && found.len() == 0 => Ok(fs::remove_file(rt, log.as_str())?),

@@ -82,6 +82,7 @@ fn serve_recorded<S: Recording + Drop, D: Disk, I: Read, O: Write>(
     requires usable { IsTrue (D.Disk.is_usable (disk_behind journal.old)) }
 {
     let mut server = OneCall::new(service);
+    streams.tell_ready()?;
     let Streams {
         clients,
         frames,

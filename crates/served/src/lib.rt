@@ -10,6 +10,7 @@ mod limits;
 mod log;
 mod logins;
 mod memory;
+mod place;
 mod program;
 mod stopped;
 mod stored;

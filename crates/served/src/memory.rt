@@ -86,6 +86,7 @@ fn serve_all<R: Rng + Drop, C: Clock + Drop, I: Read, O: Write>(
     server: Timed<R, C>,
 ) -> Result<End, Fault> {
     let mut server = OneCall::new(server);
+    streams.tell_ready()?;
     let Streams {
         clients,
         frames,

@@ -4,12 +4,15 @@ use crate::clock::SystemClock;
 use crate::fronts::Fronts;
 use crate::limits::Limits;
 use crate::memory::{serve_in_memory, serve_single};
+use crate::place::{Place, Placed};
 use crate::stopped::Stopped;
 use crate::stored::{Keeping, serve_stored};
 use dav_handler_core::serving::Clock;
+use dav_store_core::StoreError;
 use http_frames::frames::Frames;
 use http_frames::gathered::Gathered;
 use http_frames::serving::End;
+use journal_core::JournalError;
 use kept_frames::Told;
 use line_streams::Fault;
 use rand::make_rng;
@@ -25,9 +28,13 @@ use std::process::ExitCode;
 // What is told at the start where no file keeps the stores.
 const IN_MEMORY: &str = "what is stored is in memory alone, and gone when the server ends\n";
 
+// What is told where the file is no longer found by its name.
+const LOST: &str =
+    "the store is no longer at its name: the file there was removed, replaced or cut short, so nothing more is written\n";
+
 // The words that the program takes.
 const USAGE: &str =
-    "usage: davserve [--help] [--one|--login] [--read-only] [--scheme http|https] [--prefix PATH] [--user-header NAME] [--address-header NAME] [--longest-timeout SECONDS] [--propfind-depth finite|infinite] [--max-body BYTES] [--window BYTES] [--waiting BYTES] [--unfinished BYTES] [--store FILE] [--sync always|second] [--compact-over BYTES] [--compact-useless PERCENT] [--users FILE] [--realm TEXT] [--log FILE] [--seed NUMBER] [--clock NANOSECONDS|frames]\n";
+    "usage: davserve [--help] [--one|--login] [--read-only] [--scheme http|https] [--prefix PATH] [--user-header NAME] [--address-header NAME] [--longest-timeout SECONDS] [--propfind-depth finite|infinite] [--max-body BYTES] [--window BYTES] [--waiting BYTES] [--unfinished BYTES] [--store FILE] [--existing] [--sync always|second] [--compact-over BYTES] [--compact-useless PERCENT] [--users FILE] [--realm TEXT] [--log FILE] [--seed NUMBER] [--clock NANOSECONDS|frames]\n";
 
 /// Serves on the standard streams as the words behind the program's name choose, and tells on standard error why it ends, where that is not the end of the input. Its status.
 pub fn run(rt: &HostRuntime) -> ExitCode {
@@ -129,13 +136,23 @@ fn serve_connections<R: Rng + Drop>(
     choices: &mut Choices,
     rng: R,
 ) -> Result<End, Stopped> {
-    let frames = Frames::new(rt.alloc(), rt.stdin())?;
+    let place = Place::new();
+    let input = Placed {
+        rt,
+        place: &place,
+        input: rt.stdin(),
+    };
+    let frames = Frames::new(rt.alloc(), input)?;
     let output = Gathered::new(rt.alloc(), rt.stdout())?;
     let clock = SystemClock {
         rt,
         runs: choices.clock.is_none(),
     };
-    serve(rt, choices, frames, output, rng, clock)
+    let served = serve(rt, choices, &place, frames, output, rng, clock);
+    if place.is_lost() {
+        return Err(Stopped::Lost);
+    }
+    served
 }
 
 // Serves with stores that a file keeps, or that are empty at first and in memory alone. It is told here of no streams, generator and clock in particular, and so
@@ -143,6 +160,7 @@ fn serve_connections<R: Rng + Drop>(
 fn serve<R: Rng + Drop, C: Clock + Drop, I: Read + Drop, O: Write + Drop>(
     rt: &HostRuntime,
     choices: &mut Choices,
+    place: &Place,
     mut frames: Frames<I>,
     output: O,
     rng: R,
@@ -156,6 +174,7 @@ fn serve<R: Rng + Drop, C: Clock + Drop, I: Read + Drop, O: Write + Drop>(
                 rt,
                 path.as_str(),
                 choices,
+                place,
                 &mut fronts,
                 frames,
                 output,
@@ -171,6 +190,7 @@ fn serve_file<R: Rng + Drop, C: Clock + Drop, I: Read + Drop, O: Write + Drop>(
     rt: &HostRuntime,
     path: &str,
     choices: &mut Choices,
+    place: &Place,
     fronts: &mut Fronts<'_>,
     frames: Frames<I>,
     output: O,
@@ -182,6 +202,8 @@ fn serve_file<R: Rng + Drop, C: Clock + Drop, I: Read + Drop, O: Write + Drop>(
         settings: chosen_settings(rt, choices),
         sync: choices.sync,
         compacting: choices.compacting,
+        existing: choices.existing,
+        place,
     };
     serve_stored(
         rt,
@@ -237,13 +259,50 @@ fn told_stop(rt: &HostRuntime, stopped: &Stopped) -> ExitCode {
         Stopped::Stream(Fault::OutOfMemory) => no_memory(rt),
         Stopped::Stream(Fault::Io) => no_stream(rt),
         Stopped::Unkept(error) => ended_by(rt, "a change could not be kept", error, 5),
-        Stopped::Refused(error) => ended_by(rt, "the store is not opened", error, 6),
+        Stopped::Refused(error) => ended_by(rt, "the store is not opened", error, status_of(error)),
+        Stopped::Missing(path) => missing(rt, path.as_str()),
+        Stopped::Empty(path) => empty(rt, path.as_str()),
+        Stopped::Taken(path) => taken(rt, path.as_str()),
+        Stopped::Lost => ended(rt, LOST, 10),
         Stopped::InTheWay(draft) => in_the_way(rt, draft.as_str()),
         Stopped::NoUsers(error) => ended_by(rt, "the file of users is not read", error, 7),
         Stopped::WrongUsers(error) => ended_by(rt, "the file of users is wrong", error, 7),
         Stopped::WrongRealm => usage(rt),
         Stopped::NoLog(error) => ended_by(rt, "the log is not opened", error, 8),
     }
+}
+
+// By why a file is not opened: it is in use, or a call of the system failed, or it is none that this program knows.
+fn status_of(error: &StoreError) -> u8 {
+    match error {
+        StoreError::Journal(JournalError::Busy) => 9,
+        StoreError::Journal(JournalError::Failed(_) | JournalError::Full) => 11,
+        _ => 6,
+    }
+}
+
+fn missing(rt: &HostRuntime, path: &str) -> ExitCode {
+    let _written = writeln!(
+        rt.stderr(),
+        "the store is not opened: nothing stands at {path}, and with --existing none is made; davstore {path} new makes one"
+    );
+    ExitCode::from(6)
+}
+
+fn empty(rt: &HostRuntime, path: &str) -> ExitCode {
+    let _written = writeln!(
+        rt.stderr(),
+        "the store is not opened: {path} is empty, as a crash can leave a store that is being made; nothing was ever kept in it, so remove it to have a new one"
+    );
+    ExitCode::from(6)
+}
+
+fn taken(rt: &HostRuntime, path: &str) -> ExitCode {
+    let _written = writeln!(
+        rt.stderr(),
+        "the store is not made: something else stands at {path} by now, and stays"
+    );
+    ExitCode::from(6)
 }
 
 fn in_the_way(rt: &HostRuntime, draft: &str) -> ExitCode {

@@ -17,6 +17,14 @@ pub(crate) enum Stopped {
     Refused(StoreError),
     /// Beside the file, at this path, stands what has the name of its draft, and is none.
     InTheWay(String),
+    /// Nothing stands at this path, where the file has to be there.
+    Missing(String),
+    /// The file at this path has no whole header.
+    Empty(String),
+    /// Something came to this path as a new file was made there.
+    Taken(String),
+    /// The name of the file leads to another one, or to none, or the file has lost bytes.
+    Lost,
     /// What was changed could not be kept.
     Unkept(JournalError),
     /// The file of users could not be read.

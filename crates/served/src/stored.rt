@@ -1,15 +1,16 @@
 //! Serving with stores that a file keeps.
-ghost use Rattle.std.specs.Prelude.{IsTrue, IfOk, IfSome};
+ghost use Rattle.std.specs.Prelude.{◌≡◌, None, true, IsErr, IsTrue, IfOk, IfSome};
 ghost use Rattle.sqlite_std_file.specs.File.{file_is_usable};
 ghost use Rattle.journal_core.specs.Resting.{disk_behind, is_ready};
+ghost use Rattle.store_files.specs.declared.making.Standing.TheVariants.{Empty, Nothing};
 
 use crate::clock::first_moment;
 use crate::fronts::Fronts;
 use crate::keeping::serve_kept_behind;
+use crate::place::Place;
 use crate::stopped::Stopped;
 use crate::streams::Streams;
 use dav_guarded_core::fs::Moment;
-use dav_guarded_core::guarded::Guarded;
 use dav_handler_core::dav::{Dav, Settings};
 use dav_handler_core::serving::{Clock, Timed};
 use dav_kept_core::{Recorded, Tree, serve_store, serve_store_late};
@@ -25,8 +26,8 @@ use sqlite_std_file::{FileFrom, Start, Wary};
 use std::alloc::{AllocError, Global};
 use std::io::{Read, Write};
 use store_files::{
-    Anew, Compacted, Opening, Uncompacted, clear_draft, compact_opened, header_of, is_due,
-    length_of,
+    Anew, Compacted, Naming, Opening, Standing, Uncompacted, clear_draft, compact_opened,
+    end_making, header_of, is_due, length_of, make_new, standing_at,
 };
 use turn_fronts::ReadOnly;
 
@@ -35,20 +36,25 @@ const AHEAD: u64 = 60 * 1_000_000_000;
 
 /// How the stores of a file are kept and served (own).
 #[derive(Drop)]
-pub(crate) struct Keeping {
+pub(crate) struct Keeping<'a> {
     /// What the server tells of them, and to whom.
     pub(crate) settings: Settings,
     /// When the file has what is changed.
     pub(crate) sync: Sync,
     /// When the file is compacted at the start.
     pub(crate) compacting: Compacting,
+    /// Whether the file has to be there: none is made then.
+    pub(crate) existing: bool,
+    /// Where the file is, once it is open.
+    pub(crate) place: &'a Place,
 }
 
 /// Serves the connections that the frames are of, with the stores of the file at this path, which keeps
-/// what they change (own). It begins at the moment that is chosen, or else at the system's. Where there is no file it is made, at this moment; where too much of it is of no use any more
+/// what they change (own). It begins at the moment that is chosen, or else at the system's. Where there is no file it is made, at this moment, unless it has to be there; where too much of it is of no use any more
 /// it is compacted first.
 ///
-/// - `Refused`: the file is refused, or could not be opened or read. `InTheWay`: beside it stands one that is no store, and has the name of the new file of a compaction.
+/// - `Refused`: the file is refused, or could not be made, opened or read. `InTheWay`: beside it stands one that is no store, and has the name of the new file of a compaction. `Missing`: there is none, and it has to be there. `Empty`: it has no whole header. `Taken`: another one came there as it was made.
+/// - `Lost`: another file has its name before it is served.
 /// - `Unkept`: what was changed could not be kept. `WrongRealm`: the realm can't stand between quotes. `Stream`: a stream failed, or there is no memory, or the system does not tell the moment.
 pub(crate) fn serve_stored<R: Rng + Drop, C: Clock + Drop, I: Read, O: Write>(
     rt: &HostRuntime,
@@ -56,22 +62,78 @@ pub(crate) fn serve_stored<R: Rng + Drop, C: Clock + Drop, I: Read, O: Write>(
     began: Option<u64>,
     fronts: &mut Fronts<'_>,
     streams: &mut Streams<I, O>,
-    keeping: Keeping,
+    keeping: Keeping<'_>,
     rng: R,
     clock: C,
 ) -> Result<End, Stopped> {
     let now = first_moment(rt, began)?;
+    stand(rt, path, keeping.existing, now)?;
     let found = find(rt, path, now, &streams.output, Wary)?;
     tell_ahead(rt, found.opened.last, now);
     let made = compacted(rt, path, &found, keeping.compacting, &streams.output, Anew)?;
-    serve_either(rt, fronts, keeping, streams, found, made, now, rng, clock)
+    serve_either(
+        rt, path, fronts, keeping, streams, found, made, now, rng, clock,
+    )
+}
+
+// The file stands there. It is made where nothing does, unless it has to be there; that is told.
+fn stand(rt: &HostRuntime, path: &str, existing: bool, now: Moment) -> Result<(), Stopped> {
+    end_making(rt, path).map_err(unmade)?;
+    let standing = standing_at(rt, path).map_err(unmade)?;
+    stand_with(rt, path, standing, existing, now)
+}
+
+// The same, where this stands there.
+fn stand_with(
+    rt: &HostRuntime,
+    path: &str,
+    standing: Standing,
+    existing: bool,
+    now: Moment,
+) -> Result<(), Stopped>
+    ensures empty { standing ≡ Empty → IsErr result }
+    ensures missing { standing ≡ Nothing → existing ≡ true → IsErr result }
+{
+    match standing {
+        Standing::File => Ok(()),
+        Standing::Empty => Err(Stopped::Empty(String::from_str(rt.alloc(), path)?)),
+        Standing::Nothing if existing => Err(Stopped::Missing(String::from_str(rt.alloc(), path)?)),
+        Standing::Nothing => {
+            let naming = make_new(rt, path, now.0).map_err(unmade)?;
+            tell_new(rt, path, naming);
+            Ok(())
+        }
+    }
+}
+
+// Tells on standard error that a store was made.
+fn tell_new(rt: &HostRuntime, path: &str, naming: Naming) {
+    let how = match naming {
+        Naming::Linked => "",
+        Naming::Direct =>
+            ", without a link, which can't be had there: a crash as it was made would have left an empty file",
+    };
+    let _told = writeln!(rt.stderr(), "a new store was made: {path}{how}");
+}
+
+// Why the file was not made, or can't be found.
+fn unmade(error: Uncompacted) -> Stopped {
+    match error {
+        Uncompacted::InTheWay(path) => Stopped::Taken(path),
+        Uncompacted::Store(error) => Stopped::from(error),
+        Uncompacted::Failed(error) | Uncompacted::Unsynced(error) => {
+            Stopped::from(JournalError::Failed(error))
+        }
+        Uncompacted::New => Stopped::from(JournalError::Foreign),
+    }
 }
 
 // Serves with the file that was compacted, where one was, and else with the one that was found.
 fn serve_either<R: Rng + Drop, C: Clock + Drop, D: Disk + Drop, S: Start + Drop, I: Read, O: Write>(
     rt: &HostRuntime,
+    path: &str,
     fronts: &mut Fronts<'_>,
-    keeping: Keeping,
+    keeping: Keeping<'_>,
     streams: &mut Streams<I, O>,
     found: Found<D, O>,
     made: Option<Compacted<S, O>>,
@@ -98,9 +160,9 @@ fn serve_either<R: Rng + Drop, C: Clock + Drop, D: Disk + Drop, S: Start + Drop,
                 opened: found.opened,
                 used: found.used,
             };
-            serve_found(rt, fronts, keeping, streams, anew, now, rng, clock)
+            serve_found(rt, path, fronts, keeping, streams, anew, now, rng, clock)
         }
-        None => serve_found(rt, fronts, keeping, streams, found, now, rng, clock),
+        None => serve_found(rt, path, fronts, keeping, streams, found, now, rng, clock),
     }
 }
 
@@ -114,7 +176,7 @@ struct Found<D: Disk, B> {
     used: u64,
 }
 
-// Opens the file at this path and reads it. Where there is none it is made.
+// Opens the file at this path and reads it. `Empty` where it has no whole header.
 fn find<S: Start, B>(
     rt: &HostRuntime,
     path: &str,
@@ -126,12 +188,8 @@ fn find<S: Start, B>(
 {
     let new = header_of(rt, 0, now.0)?;
     let (mut journal, reader) = open(rt, path, new, output, start)?;
-    let header = match &reader {
-        Some(reader) => reader.header(),
-        None => new,
-    };
     let mut opening = Opening::of(rt, path);
-    let (opened, used) = read_all(rt, path, &mut journal, reader, now, output, &mut opening)?;
+    let (header, opened, used) = read_all(rt, path, &mut journal, reader, output, &mut opening)?;
     opening.end();
     Ok(Found {
         journal,
@@ -189,8 +247,9 @@ fn is_useless<D: Disk, B>(alloc: Global, found: &Found<D, B>, compacting: Compac
 // Serves with the stores of a file that is open. It is told here of no disk in particular, so that its check is short.
 fn serve_found<R: Rng + Drop, C: Clock + Drop, D: Disk + Drop, I: Read, O: Write>(
     rt: &HostRuntime,
+    path: &str,
     fronts: &mut Fronts<'_>,
-    keeping: Keeping,
+    keeping: Keeping<'_>,
     streams: &mut Streams<I, O>,
     found: Found<D, O>,
     now: Moment,
@@ -199,7 +258,13 @@ fn serve_found<R: Rng + Drop, C: Clock + Drop, D: Disk + Drop, I: Read, O: Write
 ) -> Result<End, Stopped>
     requires usable { IsTrue (D.Disk.is_usable (disk_behind found.journal)) }
 {
-    let Keeping { settings, sync, .. } = keeping;
+    let Keeping {
+        settings,
+        sync,
+        place,
+        ..
+    } = keeping;
+    settle(rt, path, place, found.header)?;
     let Found {
         mut journal,
         header,
@@ -208,6 +273,15 @@ fn serve_found<R: Rng + Drop, C: Clock + Drop, D: Disk + Drop, I: Read, O: Write
     } = found;
     let service = server_over(rt.alloc(), settings, opened, now, header, rng, clock)?;
     serve_recorded(rt, fronts, sync, streams, service, &mut journal)
+}
+
+// From now on the name of the file is looked for before each round.
+fn settle(rt: &HostRuntime, path: &str, place: &Place, header: Header) -> Result<(), Stopped> {
+    match place.settle(rt, path, header) {
+        Ok(()) => Ok(()),
+        Err(_) if place.is_lost() => Err(Stopped::Lost),
+        Err(error) => Err(Stopped::from(JournalError::Failed(error))),
+    }
 }
 
 // Serves with the server, behind what stands in front of it.
@@ -258,6 +332,7 @@ fn serve_on<R: Rng, C: Clock, D: Disk, I: Read, O: Write>(
 ) -> Result<End, Stopped>
     requires usable { IsTrue (D.Disk.is_usable (disk_behind journal.old)) }
 {
+    streams.tell_ready()?;
     let Streams {
         clients,
         frames,
@@ -270,30 +345,26 @@ fn serve_on<R: Rng, C: Clock, D: Disk, I: Read, O: Write>(
     Ok(end)
 }
 
-// The stores that the journal keeps, and how many bytes of the file are used; those of a new one are a root folder alone. What a compaction has left beside the file is removed, once that was read.
+// The header of the file, the stores that the journal keeps, and how many bytes of the file are used. `Empty` where it had no header. What a compaction has left beside the file is removed, once that was read.
 fn read_all<D: Disk, B, W: Watch>(
     rt: &HostRuntime,
     path: &str,
     journal: &mut Journal<D, B>,
     found: Option<Reader>,
-    now: Moment,
     note: &B,
     watch: &mut W,
-) -> Result<(Opened, u64), Stopped>
+) -> Result<(Header, Opened, u64), Stopped>
     requires usable { IsTrue (D.Disk.is_usable (disk_behind journal.old)) }
     ensures usable { IsTrue (D.Disk.is_usable (disk_behind journal.new)) }
+    // A file that had no whole header is not taken for a store.
+    ensures empty { found.now ≡ None → IsErr result }
 {
-    match found {
-        Some(mut reader) => {
-            let opened = load(rt.alloc(), journal, &mut reader, note, watch)?;
-            clear_left(rt, path, journal, reader.header())?;
-            Ok((opened, reader.place() as u64))
-        }
-        None => {
-            let stores = Guarded::new(rt.alloc(), now).map_err(|_| AllocError)?;
-            Ok((Opened { stores, last: now }, 0))
-        }
-    }
+    let Some(mut reader) = found else {
+        return Err(Stopped::Empty(String::from_str(rt.alloc(), path)?));
+    };
+    let opened = load(rt.alloc(), journal, &mut reader, note, watch)?;
+    clear_left(rt, path, journal, reader.header())?;
+    Ok((reader.header(), opened, reader.place() as u64))
 }
 
 // Removes the draft that a compaction of the file has left. `InTheWay` alone: where another call fails, one is left, and the next compaction tells it.

@@ -55,6 +55,7 @@ fn serve_turned<S: TurnService + Drop, I: Read, O: Write>(
     service: S,
 ) -> Result<End, Fault> {
     let mut server = OneCall::new(service);
+    streams.tell_ready()?;
     let Streams {
         clients,
         frames,

@@ -106,6 +106,8 @@ pub struct Choices {
     pub log: Option<String>,
     /// The file that keeps the stores; without one they are in memory alone.
     pub store: Option<String>,
+    /// Whether that file has to be there: none is made then.
+    pub existing: bool,
     /// When that file has what is changed.
     pub sync: Sync,
     /// When that file is compacted at the start.
@@ -121,8 +123,8 @@ pub struct Choices {
 }
 
 impl Choices {
-    /// Perhaps `--one` or `--login`, and behind it `--read-only`, which has no value, and options, each with its value, in any order; of one that comes twice the last counts. `OutOfMemory`
-    /// where there is no memory for it. `Unknown` where a word is none of these, `Value` where a value is missing or isn't one; and `Usage` where stores that a file keeps meet `--one` or a seed, or nothing is kept and it is to be synced each second, users `--one` or
+    /// Perhaps `--one` or `--login`, and behind it `--read-only` and `--existing`, which have no value, and options, each with its value, in any order; of one that comes twice the last counts. `OutOfMemory`
+    /// where there is no memory for it. `Unknown` where a word is none of these, `Value` where a value is missing or isn't one; and `Usage` where stores that a file keeps meet `--one` or a seed, or nothing is kept and it is to be there already or to be synced each second, users `--one` or
     /// a header that names the principal, a file of users `--login`, or `--read-only` or a log `--one`.
     pub fn of(alloc: Global, words: &[String]) -> Result<Choices, Unread> {
         let mut choices = Choices::unsaid(alloc)?;
@@ -149,6 +151,7 @@ impl Choices {
             read_only: false,
             log: None,
             store: None,
+            existing: false,
             sync: Sync::Always,
             compacting: Compacting {
                 over: COMPACT_OVER,
@@ -196,6 +199,7 @@ impl Choices {
                     name = None;
                 }
                 None if word == "--read-only" => self.read_only = true,
+                None if word == "--existing" => self.existing = true,
                 None => name = Some(word),
             }
         }
@@ -312,7 +316,7 @@ impl Choices {
         if self.store.is_some() && (self.one || self.seed.is_some()) {
             return false;
         }
-        if self.store.is_none() && self.sync == Sync::Second {
+        if self.store.is_none() && (self.existing || self.sync == Sync::Second) {
             return false;
         }
         if self.one && (self.read_only || self.log.is_some() || self.logs_in()) {

@@ -155,7 +155,7 @@ pub fn compact_opened<S: Start, B>(
 }
 
 // Removes a new file that could not be made, but not one that another program has made, or that has the name of the old one.
-fn remove_unmade(rt: &HostRuntime, new: &str, error: &Uncompacted) {
+pub(crate) fn remove_unmade(rt: &HostRuntime, new: &str, error: &Uncompacted) {
     match error {
         Uncompacted::InTheWay(_) | Uncompacted::Unsynced(_) => {}
         _ => {

@@ -1,9 +1,10 @@
-//! The file of stores: compacted, which puts a new one in its place. And how far long work is, told on standard error.
+//! The file of stores: made, and compacted, which puts a new one in its place. And how far long work is, told on standard error.
 #![tactic(auto)]
 
 mod clock;
 mod compacting;
 mod error;
+mod making;
 mod measuring;
 mod opening;
 mod placing;
@@ -14,6 +15,7 @@ pub use compacting::{
     Anew, Compacted, Lengths, Unwatched, compact_file, compact_opened, header_of, make_store,
 };
 pub use error::Uncompacted;
+pub use making::{Naming, Standing, end_making, is_one_file, make_new, standing_at};
 pub use measuring::{is_due, length_of};
 pub use opening::Opening;
 pub use placing::{clear, clear_draft, draft_of, make_like, sync_folder};

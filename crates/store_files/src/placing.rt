@@ -60,9 +60,17 @@ pub fn draft_of(
 
 /// Whether no header stands in the file yet.
 pub(crate) fn is_new(rt: &HostRuntime, path: &str) -> Result<bool, Uncompacted> {
-    let mut source = Stream::new(fs::open(rt, path)?);
-    let found = Reader::begin(rt.alloc(), &mut source, &())?;
+    let found = header_at(rt, path)?;
     Ok(found.is_none())
+}
+
+// The header of the file; none where it has none yet. `Store` where it is no store.
+pub(crate) fn header_at(rt: &HostRuntime, path: &str) -> Result<Option<Header>, Uncompacted> {
+    let mut source = Stream::new(fs::open(rt, path)?);
+    match Reader::begin(rt.alloc(), &mut source, &())? {
+        Some(reader) => Ok(Some(reader.header())),
+        None => Ok(None),
+    }
 }
 
 /// Removes what an earlier call may have left at the name of a draft, which is this path: a store that began at this moment and is of this generation, or a file that has no more than

@@ -10,6 +10,8 @@ pub enum What<'a> {
     Log(bool),
     /// It is written anew, as a snapshot of what stands in it.
     Compact,
+    /// It is made, where nothing stands.
+    New,
     /// What stands in this folder of the system is put into it.
     Import(&'a str),
     /// Its rounds are written out as they come, from the one on that ends at this byte.
@@ -43,7 +45,7 @@ pub struct Choices<'a> {
 }
 
 impl<'a> Choices<'a> {
-    /// A path, and then `check`; or `list` with a folder or without one; or `log`, with `--bodies` or without it; or `compact`; or `import` or `export` with a folder of the system; or `salvage` with a file; or
+    /// A path, and then `check`; or `list` with a folder or without one; or `log`, with `--bodies` or without it; or `compact`; or `new`; or `import` or `export` with a folder of the system; or `salvage` with a file; or
     /// `adopt`, with `--yes` or without it; or `follow`, with a number of bytes or without one; or `take`. None where the words are other than that.
     pub fn of(words: &'a [String]) -> Option<Choices<'a>> {
         let (path, rest) = words.split_first()?;
@@ -66,6 +68,7 @@ fn alone<'a>(word: &str) -> Option<What<'a>> {
         "list" => Some(What::Read(Purpose::List("/"))),
         "log" => Some(What::Log(false)),
         "compact" => Some(What::Compact),
+        "new" => Some(What::New),
         "adopt" => Some(What::Read(Purpose::Adopt(false))),
         "follow" => Some(What::Follow(None)),
         "take" => Some(What::Take),

@@ -4,20 +4,21 @@ ghost use Rattle.journal_core.specs.Resting.{disk_behind};
 
 use crate::adding::{Unimported, add, check_free};
 use crate::entries::Entry;
-use crate::sources::{Found, bytes_of, is_one_file, member_of, names_of, source_of, time_of};
+use crate::sources::{Found, bytes_of, member_of, names_of, source_of, time_of};
 use bytes::Bytes;
-use dav_guarded_core::fs::Moment;
-use dav_guarded_core::guarded::Guarded;
 use dav_path_core::davpath::ParseError;
 use dav_store_core::{Opened, StoreError, load};
-use journal_core::{Journal, JournalError, Reader, Round};
+use journal_core::{Journal, Reader, Round};
 use journal_file::open;
 use sqlite_disk::Disk;
 use sqlite_std_file::Wary;
 use std::alloc::AllocError;
 use std::fs::{self, Metadata};
-use std::io::{BufWriter, ErrorKind, Write};
-use store_files::{Opening, Progress, header_of, now};
+use std::io::{self, BufWriter, ErrorKind, Write};
+use store_files::{
+    Opening, Progress, Standing, Uncompacted, end_making, header_of, is_one_file, make_new, now,
+    standing_at,
+};
 use store_views::{Failure, told_member, told_path};
 
 /// So many records stand in a round, at most.
@@ -48,7 +49,7 @@ struct Importer<'a> {
 }
 
 /// Puts what stands in a folder of the system into the stores of the file at this path (own), which is made where it isn't there, and tells what is left out, and how much was imported. Whether nothing was left
-/// out.
+/// out; false, too, where nothing is done since the file is empty, or another one came there as it was made, which is told.
 ///
 /// - `Refused`: the file of stores is broken, or is none, or another program has it open.
 /// - `Unkept`: a round could not be appended. `Changed`: a file changed while it was read. `At`, `Failed`: a call of the system failed, or there is no memory. What was appended stays.
@@ -59,17 +60,61 @@ pub fn import<O: Write + Drop>(
     output: &mut BufWriter<O>,
 ) -> Result<bool, Failure> {
     let source = source_of(rt, folder)?;
+    if !stand(rt, path, output)? {
+        return Ok(false);
+    }
     let header = header_of(rt, 0, now(rt)?.0)?;
     let (mut journal, found) = open(rt, path, header, &(), Wary)?;
-    import_into(
-        rt,
-        path,
-        &mut journal,
-        found,
-        Moment(header.began),
-        &source,
+    let Some(mut reader) = found else {
+        tell_empty(path, output)?;
+        return Ok(false);
+    };
+    import_into(rt, path, &mut journal, &mut reader, &source, output)
+}
+
+// Whether a file stands there that may be opened. It is made where nothing does.
+fn stand<O: Write + Drop>(
+    rt: &HostRuntime,
+    path: &str,
+    output: &mut BufWriter<O>,
+) -> Result<bool, Failure> {
+    end_making(rt, path).map_err(unmade)?;
+    match standing_at(rt, path).map_err(unmade)? {
+        Standing::File => return Ok(true),
+        Standing::Empty => {
+            tell_empty(path, output)?;
+            return Ok(false);
+        }
+        Standing::Nothing => {}
+    }
+    match make_new(rt, path, now(rt)?.0) {
+        Ok(_naming) => Ok(true),
+        Err(Uncompacted::InTheWay(found)) => {
+            writeln!(output, "something stands there: {found}")?;
+            Ok(false)
+        }
+        Err(error) => Err(unmade(error)),
+    }
+}
+
+// Tells that a crash has left the file as it was made.
+fn tell_empty<O: Write + Drop>(path: &str, output: &mut BufWriter<O>) -> io::Result<()> {
+    writeln!(
         output,
+        "{path} is empty: nothing was ever kept in it, so remove it to have a new one"
     )
+}
+
+/// Why a file is not made, or can't be found.
+pub fn unmade(error: Uncompacted) -> Failure {
+    match error {
+        Uncompacted::Store(error) => Failure::from(error),
+        Uncompacted::Failed(error) | Uncompacted::Unsynced(error) => Failure::from(error),
+        Uncompacted::InTheWay(path) => {
+            Failure::At(path, io::Error::from(ErrorKind::AlreadyExists))
+        }
+        Uncompacted::New => Failure::from(io::Error::from(ErrorKind::AlreadyExists)),
+    }
 }
 
 // Puts what stands in the folder into the stores that the journal keeps.
@@ -77,15 +122,14 @@ fn import_into<D: Disk, O: Write + Drop>(
     rt: &HostRuntime,
     path: &str,
     journal: &mut Journal<D, ()>,
-    found: Option<Reader>,
-    began: Moment,
+    reader: &mut Reader,
     source: &Found,
     output: &mut BufWriter<O>,
 ) -> Result<bool, Failure>
     requires usable { IsTrue (D.Disk.is_usable (disk_behind journal.old)) }
 {
     let own = fs::metadata(rt, path)?;
-    let opened = read_all(rt, path, journal, found, began)?;
+    let opened = read_all(rt, path, journal, reader)?;
     let mut importer = Importer::over(rt, opened, own);
     import_from(&mut importer, journal, source, output)
 }
@@ -106,32 +150,20 @@ fn import_from<D: Disk, O: Write + Drop>(
     importer.tell_end(output)
 }
 
-// The stores that the journal keeps; those of a new one are a root folder alone.
+// The stores that the journal keeps. How far the file was read is told.
 fn read_all<D: Disk>(
     rt: &HostRuntime,
     path: &str,
     journal: &mut Journal<D, ()>,
-    found: Option<Reader>,
-    began: Moment,
+    reader: &mut Reader,
 ) -> Result<Opened, StoreError>
     requires usable { IsTrue (D.Disk.is_usable (disk_behind journal.old)) }
     ensures usable { IsTrue (D.Disk.is_usable (disk_behind journal.new)) }
 {
-    match found {
-        Some(mut reader) => {
-            let mut opening = Opening::of(rt, path);
-            let opened = load(rt.alloc(), journal, &mut reader, &(), &mut opening);
-            opening.end();
-            opened
-        }
-        None => match Guarded::new(rt.alloc(), began) {
-            Ok(stores) => Ok(Opened {
-                stores,
-                last: began,
-            }),
-            Err(_) => Err(StoreError::Journal(JournalError::OutOfMemory)),
-        },
-    }
+    let mut opening = Opening::of(rt, path);
+    let opened = load(rt.alloc(), journal, reader, &(), &mut opening);
+    opening.end();
+    opened
 }
 
 // Imports all that waits.

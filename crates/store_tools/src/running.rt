@@ -1,17 +1,17 @@
 //! The program: it takes the words, does what they choose, and tells how that ended.
 use crate::choices::{Choices, What};
-use crate::importing::import;
+use crate::importing::{import, unmade};
 use crate::inputs::{BUFFER, input};
 use crate::looks::{look_at, tell_broken, tell_new};
 use std::alloc::AllocError;
 use std::env;
 use std::io::{self, BufWriter, ErrorKind, Write};
-use store_files::{Lengths, Uncompacted, compact_file};
+use store_files::{Lengths, Naming, Uncompacted, compact_file, make_new, now};
 use store_views::{Failure, Logged, follow, log, take};
 
 // The words that the program takes.
 const USAGE: &str =
-    "usage: davstore PATH check\n       davstore PATH list [FOLDER]\n       davstore PATH log [--bodies]\n       davstore PATH compact\n       davstore PATH import DIR\n       davstore PATH export DIR\n       davstore PATH salvage OUT\n       davstore COPY adopt [--yes]\n       davstore PATH follow [BYTE]\n       davstore COPY take\n";
+    "usage: davstore PATH new\n       davstore PATH check\n       davstore PATH list [FOLDER]\n       davstore PATH log [--bodies]\n       davstore PATH compact\n       davstore PATH import DIR\n       davstore PATH export DIR\n       davstore PATH salvage OUT\n       davstore COPY adopt [--yes]\n       davstore PATH follow [BYTE]\n       davstore COPY take\n";
 
 /// Does what the words behind the program's name choose, and tells it (own). The status: 0, or 1 where the file isn't whole, or nothing was there to tell, or not all was done, 2 where the words are not of the program's form, and 3 where a call of the system failed, or there was no memory.
 pub fn run(rt: &HostRuntime) -> u8 {
@@ -62,6 +62,7 @@ fn do_what<O: Write + Drop>(
         What::Read(asked) => look_at(rt, path, asked, output),
         What::Log(bodies) => log_changes(rt, path, bodies, output),
         What::Compact => Ok(compact(rt, path, output)?),
+        What::New => make(rt, path, output),
         What::Import(folder) => import(rt, path, folder, output),
         What::Follow(from) => {
             follow(rt, path, from, output)?;
@@ -88,6 +89,24 @@ fn log_changes<O: Write + Drop>(
             Ok(false)
         }
     }
+}
+
+// Makes a store where nothing stands, and tells so, or what stands there.
+fn make<O: Write + Drop>(
+    rt: &HostRuntime,
+    path: &str,
+    output: &mut BufWriter<O>,
+) -> Result<bool, Failure> {
+    match make_new(rt, path, now(rt)?.0) {
+        Ok(Naming::Linked) => writeln!(output, "made")?,
+        Ok(Naming::Direct) => writeln!(output, "made, without a link, which can't be had there")?,
+        Err(Uncompacted::InTheWay(found)) => {
+            writeln!(output, "something stands there: {found}")?;
+            return Ok(false);
+        }
+        Err(error) => return Err(unmade(error)),
+    }
+    Ok(true)
 }
 
 // Compacts the file, and tells how long it was and is, or why it stays as it was.

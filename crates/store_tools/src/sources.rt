@@ -7,6 +7,7 @@ use std::fs::{self, File, Files, Metadata};
 use std::io::{self, BufRead, BufReader, ErrorKind, Read};
 use std::os::unix::fs::MetadataExt;
 use std::time::UNIX_EPOCH;
+use store_files::is_one_file;
 use store_views::Failure;
 
 // How many bytes of names are read at once; the system hands out none where one does not fit.
@@ -111,11 +112,6 @@ fn are_same(one: &Metadata, other: &Metadata) -> bool {
         && one.mtime_nsec() == other.mtime_nsec()
         && one.ctime() == other.ctime()
         && one.ctime_nsec() == other.ctime_nsec()
-}
-
-/// Whether this is one file by two names.
-pub fn is_one_file(one: &Metadata, other: &Metadata) -> bool {
-    one.dev() == other.dev() && one.ino() == other.ino()
 }
 
 /// When it was changed; none before 1970, and past the year 2554.

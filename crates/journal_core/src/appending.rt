@@ -20,6 +20,9 @@ const LARGEST: usize = 1 << 62;
 /// How much room is made behind the last round at least, in bytes.
 const ROOM: usize = 4 << 20;
 
+/// How much is made at most, where no more is asked for: so a large file leaves its disk room for others.
+const MOST: usize = 64 << 20;
+
 impl<D: Disk, B> Journal<D, B> {
     /// Appends a round. At `Ok` it is acknowledged: from then on each crash leaves a file in which its records stand. Where it has no record, nothing is done.
     ///
@@ -97,9 +100,9 @@ impl<D: Disk, B> Journal<D, B> {
     }
 
     /// Makes room behind the last round for one of so many bytes, as `Round::len` counts them, and tells whether it is there. Where the file is too short it is made longer, so
-    /// that there is room for that, and for 4 MiB, and for an eighth of the file; or as long as the disk has room. What is made is written with zeros, and on the disk at `Ok` (own).
+    /// that there is room for that, and for 4 MiB, and for an eighth of the file, but that makes no more than 64 MiB; or as long as the disk has room. What is made is written with zeros, and on the disk at `Ok` (own).
     ///
-    /// False where the disk is full, or the file would have 2^62 bytes or more; the journal stays open.
+    /// False where the disk is full, or no file of this length can stand there, or it would have 2^62 bytes or more; the journal stays open.
     ///
     /// - `NotOpen`: an earlier call failed, or the journal was not read to its end. Nothing is done.
     /// - `Failed`, `Full`: another call of the disk failed. The journal is not open any more. Its file stands for the same records.
@@ -118,7 +121,7 @@ impl<D: Disk, B> Journal<D, B> {
         ensures room { result ≡ Ok true → (records : List (List ℕ)) → IsSettled D.Disk.seen D.Disk.may_leave D.Disk.is_clean self.old records → IsTrue (D.Disk.is_clean (disk_behind self.new))
             → gate_of self.new + (32 + bytes) ≤ length (D.Disk.seen (disk_behind self.new)) }
         ensures full { result ≡ Ok false → (records : List (List ℕ)) → IsSettled D.Disk.seen D.Disk.may_leave D.Disk.is_clean self.old records → IsTrue (D.Disk.is_clean (disk_behind self.new))
-            → (2 ^ 62 ≤ gate_of self.old + (32 + bytes)) ⊎ MoreFaults (D.Disk.tally_of (disk_behind self.old)).refused (D.Disk.tally_of (disk_behind self.new)).refused }
+            → (2 ^ 62 ≤ gate_of self.old + (32 + bytes)) ⊎ MoreFaults (D.Disk.faults (disk_behind self.old)) (D.Disk.faults (disk_behind self.new)) }
         ensures known { result ≡ Ok true → IsSome (len_of self.new) }
         ensures steps { (records : List (List ℕ)) → IsSettled D.Disk.seen D.Disk.may_leave D.Disk.is_clean self.old records → GoesBySteps D.Disk.seen (header_in self.old) (clocked_of self.old) (clocked_of self.new) }
         ensures end { gate_of self.new ≡ gate_of self.old }
@@ -138,7 +141,7 @@ impl<D: Disk, B> Journal<D, B> {
         self.is_open = false;
         let mut len = self.measure(note).map_err(JournalError::Failed)?;
         if len < wanted {
-            let room = bytes.max(ROOM).max(self.at / 8);
+            let room = bytes.max(ROOM).max(MOST.min(self.at / 8));
             len = self.grow(note, len, self.at + 32 + room)?;
         }
         self.is_open = true;
@@ -153,7 +156,7 @@ impl<D: Disk, B> Journal<D, B> {
         ensures durable { OnOk result (Only (D.Disk.seen (disk_behind self.new)) (D.Disk.may_leave (disk_behind self.new))) }
         ensures knows { IfOk result (λ n. (self.new.len ≡ Some n) × KnowsLength D.Disk.seen D.Disk.is_clean self.new) }
         ensures full { IfOk result (λ n. IsTrue (D.Disk.is_clean (disk_behind self.new)) → (to ≤ n)
-            ⊎ MoreFaults (D.Disk.tally_of (disk_behind self.old)).refused (D.Disk.tally_of (disk_behind self.new)).refused) }
+            ⊎ MoreFaults (D.Disk.faults (disk_behind self.old)) (D.Disk.faults (disk_behind self.new))) }
         ensures fails { IfErr result (λ e. HasRoomCause e (D.Disk.faults (disk_behind self.old)) (D.Disk.faults (disk_behind self.new)) × (e ≢ NotOpen)) }
         ensures clean { IsTrue (D.Disk.is_clean (disk_behind self.new)) → IsTrue (D.Disk.is_clean (disk_behind self.old)) }
         ensures usable { OnOk result (IsTrue (D.Disk.is_usable (disk_behind self.new))) }

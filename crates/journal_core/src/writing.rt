@@ -11,7 +11,7 @@ use crate::clocked::Clocked;
 use crate::error::JournalError;
 use crate::round::Round;
 use sqlite_disk::{Disk, is_no_room};
-use std::io;
+use std::io::{self, ErrorKind};
 
 /// Writes bytes, and has them on the disk at `Ok`.
 pub(crate) fn put<D: Disk, B>(
@@ -119,7 +119,7 @@ fn write_parts<D: Disk, B>(
     Ok(at)
 }
 
-/// Writes zeros from one place up to another, or up to where the disk has no more room, and has them on the disk at `Ok`.
+/// Writes zeros from one place up to another, or up to where the disk has no more room, or the file may be no longer, and has them on the disk at `Ok`.
 pub(crate) fn lengthen<D: Disk, B>(
     disk: &mut Clocked<D, B>,
     note: &B,
@@ -129,7 +129,7 @@ pub(crate) fn lengthen<D: Disk, B>(
     requires usable { IsTrue (D.Disk.is_usable (disk_of disk.old)) }
     requires some { from < to }
     ensures len { OnOk result ((length (D.Disk.seen (disk_of disk.new)) ≡ max (length (D.Disk.seen (disk_of disk.old))) to)
-        ⊎ MoreFaults (D.Disk.tally_of (disk_of disk.old)).refused (D.Disk.tally_of (disk_of disk.new)).refused) }
+        ⊎ MoreFaults (D.Disk.faults (disk_of disk.old)) (D.Disk.faults (disk_of disk.new))) }
     ensures seen { (front : List ℕ) → length front ≤ from → BeginsWith front (D.Disk.seen (disk_of disk.old)) → BeginsWith front (D.Disk.seen (disk_of disk.new)) }
     ensures durable { OnOk result (Only (D.Disk.seen (disk_of disk.new)) (D.Disk.may_leave (disk_of disk.new))) }
     ensures behind { WritesBehind D.Disk.seen D.Disk.may_leave note.now from disk.old disk.new }
@@ -145,7 +145,7 @@ pub(crate) fn lengthen<D: Disk, B>(
         match write_piece(disk, note, at, &zeros[..count]) {
             Ok(next) => at = next,
             Err(error) => {
-                if is_no_room(&error) {
+                if is_no_room(&error) || is_too_long(&error) {
                     return disk.sync(note);
                 }
                 return Err(error);
@@ -153,6 +153,14 @@ pub(crate) fn lengthen<D: Disk, B>(
         }
     }
     disk.sync(note)
+}
+
+// Whether no file may be as long as it would be, by a limit of its file system or of the process.
+fn is_too_long(error: &io::Error) -> bool {
+    match error.kind() {
+        ErrorKind::FileTooLarge => true,
+        _ => false,
+    }
 }
 
 /// What a call of the disk that failed is told as.

@@ -40,7 +40,10 @@ impl Place {
 
     /// From now on it is the file at this path, which has this header, and is open (own). `Err` where a call of the system failed, there is no memory, or another file has the name already.
     pub(crate) fn settle(&self, rt: &HostRuntime, path: &str, header: Header) -> io::Result<()> {
-        let known = known_at(rt, path)?;
+        let known = match known_at(rt, path) {
+            Err(error) if error.kind() == ErrorKind::NotFound => return Err(self.lose()),
+            known => known?,
+        };
         if !begins_with(rt.alloc(), &known.front, header) {
             return Err(self.lose());
         }

@@ -124,7 +124,7 @@ fn unmade(error: Uncompacted) -> Stopped {
         Uncompacted::Failed(error) | Uncompacted::Unsynced(error) => {
             Stopped::from(JournalError::Failed(error))
         }
-        Uncompacted::New => Stopped::from(JournalError::Foreign),
+        Uncompacted::New | Uncompacted::Replaced => Stopped::Lost,
     }
 }
 
@@ -224,6 +224,7 @@ fn compacted<S: Start + Drop, D: Disk, B>(
             Ok(Some(made))
         }
         Err(Uncompacted::InTheWay(draft)) => Err(Stopped::InTheWay(draft)),
+        Err(Uncompacted::Replaced) => Err(Stopped::Lost),
         Err(Uncompacted::Unsynced(error)) => Err(Stopped::from(JournalError::Failed(error))),
         Err(error) => {
             let _told = writeln!(rt.stderr(), "the store is not compacted: {error}");

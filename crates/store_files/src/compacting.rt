@@ -10,7 +10,7 @@ ghost use Rattle.store_files.specs.WrittenStores.{IsOnDisk};
 
 use crate::error::Uncompacted;
 use crate::placing::{
-    clear, clear_log, draft_of, find_free, in_the_way, is_new, make_like, sync_folder,
+    clear, clear_log, draft_of, find_free, header_at, in_the_way, is_new, make_like, sync_folder,
 };
 use dav_store_core::{Opened, StoreError, Watch, compact, load};
 use journal_core::{Header, Journal, Reader};
@@ -120,7 +120,7 @@ impl Watch for Unwatched {
 /// link stands at the path, that is done where it leads.
 ///
 /// - `InTheWay`: what stands at the draft's name is no draft of this store, or came there
-///   meanwhile. It stays.
+///   meanwhile. It stays. `Replaced`: another file has come to the path meanwhile. It stays, too.
 /// - `Store`, `Failed`: the new file could not be made and written; it is removed again.
 /// - `Unsynced`: it was given the name of the old one, but the folder could not be synced.
 ///
@@ -145,7 +145,16 @@ pub fn compact_opened<S: Start, B>(
     let later = header_of(rt, header.generation.saturating_add(1), header.began)?;
     let new = draft_of(rt, real.as_str(), header.key, later.generation)?;
     clear(rt, new.as_str(), later.began, later.generation)?;
-    match write_anew(rt, real.as_str(), new.as_str(), later, opened, note, start) {
+    match write_anew(
+        rt,
+        real.as_str(),
+        header,
+        new.as_str(),
+        later,
+        opened,
+        note,
+        start,
+    ) {
         Ok(made) => Ok(made),
         Err(error) => {
             remove_unmade(rt, new.as_str(), &error);
@@ -157,7 +166,8 @@ pub fn compact_opened<S: Start, B>(
 // Removes a new file that could not be made, but not one that another program has made, or that has the name of the old one.
 pub(crate) fn remove_unmade(rt: &HostRuntime, new: &str, error: &Uncompacted) {
     match error {
-        Uncompacted::InTheWay(_) | Uncompacted::Unsynced(_) => {}
+        Uncompacted::InTheWay(path) if path.as_str() == new => {}
+        Uncompacted::Unsynced(_) => {}
         _ => {
             let _removed = fs::remove_file(rt, new);
         }
@@ -176,10 +186,11 @@ pub fn header_of(rt: &HostRuntime, generation: u64, began: u64) -> io::Result<He
     })
 }
 
-// Writes the new file, and gives it the name of the old one. `InTheWay` where it isn't new; `Unsynced` where the folder could not be synced.
+// Writes the new file, and gives it the name of the old one, which has this header. `InTheWay` where it isn't new, `Replaced` where another file has the name of the old one; `Unsynced` where the folder could not be synced.
 fn write_anew<S: Start, B>(
     rt: &HostRuntime,
     old: &str,
+    replaced: Header,
     new: &str,
     header: Header,
     opened: &Opened,
@@ -198,7 +209,7 @@ fn write_anew<S: Start, B>(
         return Err(in_the_way(rt, new)?);
     }
     clear_log(rt, new)?;
-    let lengths = write_over(rt, old, new, &mut journal, header, opened, note)?;
+    let lengths = write_over(rt, old, replaced, new, &mut journal, header, opened, note)?;
     Ok(Compacted {
         journal,
         header,
@@ -211,6 +222,7 @@ fn write_anew<S: Start, B>(
 fn write_over<D: Disk, B>(
     rt: &HostRuntime,
     old: &str,
+    replaced: Header,
     new: &str,
     journal: &mut Journal<D, B>,
     header: Header,
@@ -228,6 +240,9 @@ fn write_over<D: Disk, B>(
     write_into(rt.alloc(), journal, header, opened, note)?;
     let before = fs::metadata(rt, old)?.len();
     let now = fs::metadata(rt, new)?.len();
+    if header_at(rt, old)? != Some(replaced) {
+        return Err(Uncompacted::Replaced);
+    }
     put_in_place(rt, new, old, journal, header, opened)?;
     match sync_folder(rt, old) {
         Ok(()) => Ok(Lengths { before, now }),

@@ -18,6 +18,8 @@ pub enum Uncompacted {
     New,
     /// At this path, which the new file is to have, stands something that is not to be removed.
     InTheWay(String),
+    /// The file was removed, or another one has its name by now.
+    Replaced,
     /// A call of the system failed, or there is no memory.
     Failed(io::Error),
     /// The new file has the name of the old one, but the folder's sync failed, so a crash may give the
@@ -68,7 +70,8 @@ impl fmt::Display for Uncompacted {
         match self {
             Uncompacted::Store(error) => write!(f, "{error}"),
             Uncompacted::New => f.write_str("it has no record yet"),
-            Uncompacted::InTheWay(path) => write!(f, "{path} is in the way, and no draft of it"),
+            Uncompacted::InTheWay(path) => write!(f, "{path} is in the way"),
+            Uncompacted::Replaced => f.write_str("the file was removed or replaced meanwhile"),
             Uncompacted::Failed(error) | Uncompacted::Unsynced(error) => write!(f, "{error}"),
         }
     }

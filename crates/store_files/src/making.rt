@@ -90,6 +90,7 @@ pub fn end_making(rt: &HostRuntime, path: &str) -> Result<(), Uncompacted> {
     match fs::symlink_metadata(rt, draft.as_str()) {
         Ok(other) if is_one_file(&found, &other) => {
             fs::remove_file(rt, draft.as_str())?;
+            clear_log(rt, draft.as_str())?;
             Ok(sync_folder(rt, real.as_str())?)
         }
         _ => Ok(()),

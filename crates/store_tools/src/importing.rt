@@ -113,7 +113,9 @@ pub fn unmade(error: Uncompacted) -> Failure {
         Uncompacted::InTheWay(path) => {
             Failure::At(path, io::Error::from(ErrorKind::AlreadyExists))
         }
-        Uncompacted::New => Failure::from(io::Error::from(ErrorKind::AlreadyExists)),
+        Uncompacted::New | Uncompacted::Replaced => {
+            Failure::from(io::Error::from(ErrorKind::AlreadyExists))
+        }
     }
 }
 
@@ -131,7 +133,27 @@ fn import_into<D: Disk, O: Write + Drop>(
     let own = fs::metadata(rt, path)?;
     let opened = read_all(rt, path, journal, reader)?;
     let mut importer = Importer::over(rt, opened, own);
-    import_from(&mut importer, journal, source, output)
+    let is_whole = import_from(&mut importer, journal, source, output)?;
+    Ok(is_still(rt, path, &importer.own, output)? && is_whole)
+}
+
+// Whether the name still leads to the file, which is told where it does not.
+fn is_still<O: Write + Drop>(
+    rt: &HostRuntime,
+    path: &str,
+    own: &Metadata,
+    output: &mut BufWriter<O>,
+) -> io::Result<bool> {
+    match fs::metadata(rt, path) {
+        Ok(now) if is_one_file(own, &now) => Ok(true),
+        _ => {
+            writeln!(
+                output,
+                "{path} was removed or replaced meanwhile: what was imported stands in the file that was there"
+            )?;
+            Ok(false)
+        }
+    }
 }
 
 // Puts what stands in the folder into the stores, and tells how much that was.

@@ -203,7 +203,7 @@ fn make_of<O: Write + Drop>(
             writeln!(output, "salvaged: {records} records, last moment {last}")?;
             Ok(true)
         }
-        Err(Uncompacted::InTheWay(_) | Uncompacted::New) => {
+        Err(Uncompacted::InTheWay(_) | Uncompacted::New | Uncompacted::Replaced) => {
             writeln!(output, "something stands there: {to}")?;
             Ok(false)
         }

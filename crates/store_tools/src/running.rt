@@ -128,6 +128,13 @@ fn compact<O: Write + Drop>(
             writeln!(output, "in the way: {draft}")?;
             Ok(false)
         }
+        Err(Uncompacted::Replaced) => {
+            writeln!(
+                output,
+                "another file has come to {path} meanwhile, and stays"
+            )?;
+            Ok(false)
+        }
         Err(Uncompacted::Store(error)) => {
             writeln!(output, "{error}")?;
             Ok(false)

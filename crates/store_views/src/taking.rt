@@ -337,7 +337,9 @@ fn not_clear(error: Uncompacted) -> Failure {
         Uncompacted::InTheWay(draft) => {
             Failure::At(draft, io::Error::from(ErrorKind::AlreadyExists))
         }
-        Uncompacted::New => Failure::from(io::Error::from(ErrorKind::AlreadyExists)),
+        Uncompacted::New | Uncompacted::Replaced => {
+            Failure::from(io::Error::from(ErrorKind::AlreadyExists))
+        }
     }
 }
 

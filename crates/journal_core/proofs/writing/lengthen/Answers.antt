@@ -1,11 +1,8 @@
 -- A piece more, of one byte at least.
-use Rattle.std.proofs.Common.{rules, tests, ◌≡◌, ◌⊎◌, ◌+◌, ◌<◌, ◌≤◌, ℕ, List, true, Result, Ok, Err, OnErr, OnOk, MatchBool, inl, inr, length, max, refl, sym, ◌∙◌, subst, arith}
+use Rattle.std.proofs.Common.{rules, tests, ◌≡◌, ◌⊎◌, ◌+◌, ◌<◌, ◌≤◌, ℕ, List, true, Result, Ok, Err, OnErr, OnOk, inl, inr, length, max, refl, sym, ◌∙◌, subst, arith}
 use Rattle.std.proofs.lemmas.Result.{on_ok_weaker}
 use Rattle.std.specs.declared.io.Error.{Error}
-use Rattle.sqlite_disk.specs.Disk.{MoreFaults}
-use Rattle.sqlite_disk.specs.Refusal.{is_no_room}
-use Rattle.sqlite_disk.specs.Tally.{CountsRefusal}
-use Rattle.sqlite_disk.specs.declared.tally.Tally.{Tally}
+use Rattle.sqlite_disk.specs.Disk.{CountsFault, MoreFaults}
 use Rattle.journal_core.specs.Clocked.{disk_of}
 use Rattle.journal_core.specs.Private.Stages.{IsCounted}
 use Rattle.journal_core.proofs.Staging.{begins_in, behind_not, behind_on, behind_sync, behind_two, counted_grows, counted_ok, counted_two, fails_behind, ok_usable}
@@ -24,13 +21,10 @@ on_ok : {T E P : Type 0} (r : Result T E) → P → OnOk r P
 on_ok (Ok x) it = it
 on_ok (Err e) it = tt
 
--- a call found no room, and the sync behind it went well
-no_room_told : (e : Error) (r : Result (Unit {0}) Error) (P : Type 0) (a b c d : Tally) → b.refused ≡ a.refused → MatchBool (is_no_room e) (MoreFaults b.refused c.refused) (c.refused ≡ b.refused) → is_no_room e ≡ true → CountsRefusal r c d
-    → OnOk r (P ⊎ MoreFaults a.refused d.refused)
-no_room_told e (Ok x) P a b c d first second full last =
-    let more = subst (λ t. MatchBool t (MoreFaults b.refused c.refused) (c.refused ≡ b.refused)) full second in
-    inr (subst (λ n. MoreFaults n d.refused) first (subst (λ n. MoreFaults b.refused n) (sym last.refused) more))
-no_room_told e (Err y) P a b c d first second full last = tt
+-- a call failed, and the sync behind it went well
+fault_told : (r : Result (Unit {0}) Error) (P : Type 0) (a b c d : ℕ) → b ≡ a → MoreFaults b c → CountsFault r c d → OnOk r (P ⊎ MoreFaults a d)
+fault_told (Ok x) P a b c d first second last = inr (omega (arith, first, second, last))
+fault_told (Err y) P a b c d first second last = tt
 
 pub returns-in-Err-clause-behind : goal.returns-in-Err-clause-behind
 returns-in-Err-clause-behind g c =
@@ -97,7 +91,7 @@ returns-then-is_no_room-clause-len g c =
     let d2 = disk_of c.write_piece.new.disk in
     let d3 = disk_of c.sync.new.self in
     let told = subst (λ (r : Result ℕ Error). IsCounted r (faults d1) (faults d2) (tally d1) (tally d2)) c.in-Err.is c.write_piece.ensures.counts in
-    no_room_told c.in-Err.error c.sync.result _ (tally d0) (tally d1) (tally d2) (tally d3) c.writing.invariant.counts.refused.refused told.refused.refused (search rules) c.sync.ensures.tally
+    fault_told c.sync.result _ (faults d0) (faults d1) (faults d2) (faults d3) c.writing.invariant.counts.faults told.faults.0 c.sync.ensures.faults
 
 pub returns-then-is_no_room-clause-seen : goal.returns-then-is_no_room-clause-seen
 returns-then-is_no_room-clause-seen g c =

@@ -75,6 +75,10 @@ fn do_whole<O: Write + Drop>(
 ) -> Result<bool, Failure> {
     match asked {
         Purpose::Check => check(rt, path, whole, output),
+        Purpose::List(folder) if !folder.starts_with('/') => {
+            writeln!(output, "a path begins with a slash: /{folder}")?;
+            Ok(false)
+        }
         Purpose::List(folder) => Ok(list(rt.alloc(), &whole.opened.stores, folder, output)?),
         Purpose::Export(folder) => export(rt, &whole.opened.stores, folder, output),
         Purpose::Salvage(_) | Purpose::Adopt(_) => {

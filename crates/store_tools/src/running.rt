@@ -34,6 +34,11 @@ fn words(rt: &HostRuntime) -> io::Result<Vec<String>> {
 }
 
 fn run_words(rt: &HostRuntime, words: &[String]) -> u8 {
+    if let [word] = words
+        && word.as_str() == "--help"
+    {
+        return help(rt);
+    }
     let Some(choices) = Choices::of(words) else {
         return ended(rt, USAGE, 2);
     };
@@ -41,6 +46,14 @@ fn run_words(rt: &HostRuntime, words: &[String]) -> u8 {
         Ok(true) => 0,
         Ok(false) => 1,
         Err(failure) => failed(rt, choices.path, &failure),
+    }
+}
+
+// Tells the usage on standard output; 3 where that fails.
+fn help(rt: &HostRuntime) -> u8 {
+    match rt.stdout().write_all(USAGE.as_bytes()) {
+        Ok(()) => 0,
+        Err(_) => 3,
     }
 }
 

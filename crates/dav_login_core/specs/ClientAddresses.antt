@@ -1,10 +1,11 @@
 -- The address of a request's client: the one that a proxy in front tells by a field, or else that of the connection (own).
-use Rattle.std.specs.Prelude.{ℕ, ◌-◌, Bool, not, ◌==◌, ◌&&◌, ◌||◌, nat_le, nat_lt, List, [], take, drop, length, Option, None, Some, if◌then◌else◌}
-use Rattle.std.specs.List.{last_or, list_all, prefix_len, suffix_len}
+use Rattle.std.specs.Prelude.{ℕ, ◌-◌, Bool, not, ◌==◌, ◌||◌, nat_le, List, [], take, drop, length, Option, None, Some, if◌then◌else◌}
+use Rattle.std.specs.List.{last_or, prefix_len, suffix_len}
 use Rattle.http_header.specs.FieldValue.{FieldValue}
 use Rattle.http_header.specs.HeaderMap.{Entries, get_all}
 use Rattle.http.specs.declared.request.Request.{Request}
 use Rattle.http.specs.Request.{head_of}
+use Rattle.http_frames.specs.Frames.{is_address}
 use Rattle.dav_login_core.specs.declared.addresses.Addresses.{Addresses}
 
 -- ---- what the field tells
@@ -40,14 +41,6 @@ told_in None headers = []
 told_in (Some name) headers = told_by_last (last_or None (get_all headers name))
 
 -- ---- the address
-
--- a byte that prints, and is no blank
-abbrev pub is_seen : ℕ → Bool
-is_seen b = nat_lt 32 b && nat_lt b 127
-
--- 1 to 64 bytes that are seen
-abbrev pub is_address : List ℕ → Bool
-is_address text = nat_lt 0 (length text) && (nat_lt (length text) 65 && list_all is_seen text)
 
 -- The address of a request: that which the chosen field tells, where it can be one, and else the connection's.
 abbrev pub address_of : Option (List ℕ) → Entries FieldValue → List ℕ → List ℕ

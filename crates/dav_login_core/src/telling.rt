@@ -1,7 +1,8 @@
 //! What a field tells of an address.
 ghost use Rattle.std.specs.Prelude.{◌≡◌, ◌-◌, drop, take, length};
 ghost use Rattle.std.specs.List.{prefix_len, suffix_len, list_all};
-ghost use Rattle.dav_login_core.specs.ClientAddresses.{behind_last_comma, is_address, is_blank, is_seen, told_by_value, told_in, without_blanks};
+ghost use Rattle.dav_login_core.specs.ClientAddresses.{behind_last_comma, is_blank, told_by_value, told_in, without_blanks};
+ghost use Rattle.http_frames.specs.Frames.{is_address, is_address_byte};
 
 use crate::addresses::LONGEST;
 use http_header::{HeaderMap, HeaderName, HeaderValue};
@@ -36,13 +37,13 @@ pub(crate) fn is_address(text: &[u8]) -> bool
 }
 
 fn are_seen(text: &[u8]) -> bool
-    ensures { result ≡ list_all is_seen text.now }
+    ensures { result ≡ list_all is_address_byte text.now }
 {
-    text.iter().all(|b| is_seen(*b))
+    text.iter().all(|b| is_address_byte(*b))
 }
 
-fn is_seen(byte: u8) -> bool
-    ensures { result ≡ is_seen byte }
+fn is_address_byte(byte: u8) -> bool
+    ensures { result ≡ is_address_byte byte }
 {
     32 < byte && byte < 127
 }

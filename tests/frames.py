@@ -29,9 +29,15 @@ def frame(number, piece=b""):
     return b"%d %d\n" % (number, len(piece)) + piece
 
 
+READY = b"ready\n"
+
+
 def pieces(out):
-    """The pieces of each connection, by its number. A ValueError where a frame is not whole. What else the program tells is left out: the end of a stored input is the answer to it."""
+    """The pieces of each connection, by its number, of a program that is ready first of all, or tells nothing. A ValueError where it isn't, or a frame is not whole. What else the program tells is left out: the end of a stored input is the answer to it."""
     told = collections.defaultdict(list)
+    if out and not out.startswith(READY):
+        raise ValueError("the program is not ready first of all")
+    out = out[len(READY) :]
     while out:
         head, found, out = out.partition(b"\n")
         if head == b"more" or head.split()[0] in (b"grant", b"rests", b"owes"):
@@ -93,7 +99,7 @@ class Listener:
         self.clients, self.slow, self.told, self.wrong = {}, set(), collections.defaultdict(list), []
         # Those of whom it isn't known that all that they sent is answered.
         self.busy = set()
-        self.out, self.line, self.number, self.left = bytearray(), b"", 0, 0
+        self.out, self.line, self.number, self.left, self.is_ready = bytearray(), b"", 0, 0, False
         # Whether more may be said, and whether the program has ended; its status then, and its processor seconds.
         self.is_open, self.has_ended, self.status, self.seconds = True, False, None, 0
         self.hear, self.asked = self.keep, lambda: None
@@ -218,7 +224,11 @@ class Listener:
                 return
             words = (self.line + text[at:end]).split(b" ")
             self.line, at = b"", end + 1
-            if words == [b"more"]:
+            if not self.is_ready:
+                self.is_ready = True
+                if words != [b"ready"]:
+                    self.wrong.append(f"the line {words[:4]} is told before it is ready")
+            elif words == [b"more"]:
                 self.asked()
                 self.say(b"none\n")
             elif len(words) == 2 and all(map(bytes.isdigit, words)):

@@ -319,9 +319,11 @@ static struct connection *numbered(unsigned long number) {
     return NULL;
 }
 
-/* Takes a line, and tells how long the piece behind it is, and whose. */
+/* Takes a line, and tells how long the piece behind it is, and whose. The first one says that the program is ready, but in a build from before that. */
 static size_t take_line(char *line, struct connection **whose) {
+    static int has_told;
     static const char *const words[] = {"grant ", "rests ", "owes "};
+    if (!has_told++ && !strcmp(line, "ready")) return 0;
     if (!strcmp(line, "more")) { is_asked = 1; return 0; }
     int word = 0;
     while (word < 3 && strncmp(line, words[word], strlen(words[word]))) word++;

@@ -19,7 +19,7 @@ from usages import HELP
 OF_LISTENER = {"--" + name for name in "listen connections connections-per-address idle head rate stall linger grace memory window users".split()}
 OF_BOTH = {"--window"}
 # The options that have no value. They are the program's.
-FLAGS = {"--read-only"}
+FLAGS = {"--read-only", "--existing"}
 
 
 def version(program):

@@ -2,12 +2,13 @@
 
 HELP = {
     "davserve": """\
-usage: bin/davserve [PORT] [OPTION VALUE].. [--read-only]
+usage: bin/davserve [PORT] [OPTION VALUE].. [--read-only] [--existing]
 
-Serves a WebDAV folder on 127.0.0.1 at PORT, else 8080 (0: any that is free), and prints its URL once it listens. With --store a file keeps it; else it is empty at first, and gone when it ends.
+Serves a WebDAV folder on 127.0.0.1 at PORT, else 8080 (0: any that is free), and prints its URL once it serves. With --store a file keeps it; else it is empty at first, and gone when it ends.
 It runs what was proved on this machine, or else the release in this repository. A first SIGTERM or interrupt lets what has begun go on for a while, a second ends it at once.
 
   --store FILE                    the file that keeps what is put, through any crash; it is made where it isn't there. What it keeps stands in memory, too
+  --existing                      FILE has to be there: no new one is made (bin/davstore FILE new makes one)
   --sync always|second            when FILE has what is changed: before an answer tells of it, as without this; or once a second, so that a crash takes at most the last second's changes
   --compact-over BYTES            at the start FILE is written anew where it has more bytes than that, 67108864 without this,
   --compact-useless PERCENT       and where more than so many hundredths of it are of no use any more, 50 without this
@@ -48,12 +49,14 @@ usage: bin/davstore FILE check
        bin/davstore FILE list [FOLDER]
        bin/davstore FILE log [--bodies]
        bin/davstore FILE compact
+       bin/davstore FILE new
        bin/davstore FILE import DIR
        bin/davstore FILE export DIR
        bin/davstore FILE salvage OUT
 
 Says of a file of --store whether it is whole, what stands in it, or what changed it (crates/davstore/README.md). It changes nothing there, and may be run beside the server.
 With compact it writes the file anew, without what was deleted or written over; the server must not run meanwhile.
+With new it makes an empty store, where nothing stands at FILE.
 With import it puts what stands in a folder into the file, for which the server must not run either; with export what stands in the file into a new folder.
 With salvage it puts what stood in a file before it is broken into a new file.
   --prove                         proves and builds it here, and compares its bytes with those of the release

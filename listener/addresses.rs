@@ -1,4 +1,5 @@
 //! Where clients are let in: addresses of IPv4 and IPv6, sockets of Unix, and sockets that whoever started this process hands over.
+use crate::options::read_port;
 use crate::system;
 use std::env;
 use std::fs::{remove_file, set_permissions, Permissions};
@@ -27,6 +28,9 @@ pub fn read(word: &str) -> Result<Vec<Address>, String> {
             _ => Err(format!("{} is no address: unix:PATH, or unix:PATH,mode=660", word)),
         };
     }
+    let port = word.rsplit_once(':').map(|(_, port)| port);
+    let port = port.ok_or_else(|| format!("{} is no address: it has no port, as in 127.0.0.1:8080", word))?;
+    read_port(port).map_err(|why| format!("{} is no address: {}", word, why))?;
     let found = word.to_socket_addrs().map_err(|error| format!("{} is no address: {}", word, error))?;
     Ok(found.map(Address::Internet).collect())
 }

@@ -47,10 +47,10 @@ fn place_of(address: IpAddr) -> IpAddr {
 }
 
 impl Clients {
-    pub fn new(poll: Poll, to: ToProgram, limits: Limits, most: (usize, usize), window: u64) -> Clients {
+    pub fn new(poll: Poll, limits: Limits, most: (usize, usize), window: u64) -> Clients {
         Clients {
             poll,
-            to,
+            to: ToProgram::new(),
             limits,
             most: most.0,
             most_from_one: most.1,
@@ -137,9 +137,9 @@ impl Clients {
         self.arm(key);
     }
 
-    /// Another program comes, which knows of no client: those that have begun are over, and get what was handed out to them. Those that have said nothing stay.
-    pub fn begin_again(&mut self, to: ToProgram) {
-        (self.to, self.is_asked) = (to, false);
+    /// Another program will come, which knows of no client: those that have begun are over, and get what was handed out to them. Those that have said nothing stay.
+    pub fn begin_again(&mut self) {
+        (self.to, self.is_asked) = (ToProgram::new(), false);
         self.by_number.clear();
         let keys: Vec<_> = self.by_key.keys().copied().collect();
         for key in keys {
@@ -243,8 +243,8 @@ impl Clients {
             }
             Told::Line(Line::Rests(number, bytes)) => self.waits(number, Turn::Rests, bytes),
             Told::Line(Line::Owes(number, bytes)) => self.waits(number, Turn::Owes, bytes),
-            // Its bytes come behind it.
-            Told::Line(Line::Bytes(..)) => {}
+            // Its bytes come behind it; and that the program is ready is no client's matter.
+            Told::Line(Line::Bytes(..) | Line::Ready) => {}
         }
     }
 

@@ -12,15 +12,18 @@ mod notify;
 mod options;
 mod poll;
 mod program;
+mod runs;
 mod server;
 mod system;
+mod telling;
 mod times;
 mod users;
 
 use addresses::{Address, Listener};
 use options::{Options, USAGE};
-use program::{FromProgram, ToProgram};
-use server::{End, Server};
+use program::Pipes;
+use runs::Runs;
+use server::{End, Manner, Server};
 use std::fmt::Arguments;
 use std::fs::{read_to_string, File};
 use std::io::{self, ErrorKind, Write};
@@ -28,22 +31,24 @@ use std::path::Path;
 use std::process::{exit, Child, ExitStatus};
 use std::thread::sleep;
 use std::time::{Duration, Instant};
+use telling::Telling;
 use users::Users;
 
-/// How it ends: by a signal; where no client can come; by wrong words; where the program can't be run; with too few files; where the program has ended; where the system fails it; where the users can't be read.
+/// How it ends: by a signal; where no client can come; by wrong words; where the program can't be run; with too few files; where the program tells what is no frame; where the system fails it; where the users can't be read.
 const STOPPED: i32 = 0;
 const NO_ADDRESS: i32 = 1;
 const WRONG_WORDS: i32 = 2;
 const NO_PROGRAM: i32 = 3;
 const TOO_FEW_FILES: i32 = 4;
-const PROGRAM_ENDED: i32 = 5;
+const WRONG_FRAME: i32 = 5;
 const FAILED: i32 = 6;
 const NO_USERS: i32 = 7;
-
-/// By this status the program says that what was changed could not be kept. So often within so long it is run again then.
-const NOT_KEPT: i32 = 5;
-const AGAIN: usize = 3;
-const WITHIN: Duration = Duration::from_secs(60);
+/// Where the program has ended by itself: its own status behind this, or the last of these; and where a signal has ended it.
+const PROGRAM_ENDED: i32 = 20;
+const LAST_OF_PROGRAM: i32 = 39;
+const PROGRAM_KILLED: i32 = 40;
+/// By this status, or a lower one, the program says that all that it did is kept.
+const ALL_KEPT: i32 = 1;
 
 /// Files that are no clients': of the program, of signals, of addresses.
 const OTHER_FILES: u64 = 64;
@@ -117,85 +122,65 @@ fn open(word: &str, address: &Address) -> Listener {
 fn serve(options: &Options, listeners: Vec<Listener>, users: Option<Users>) -> io::Result<i32> {
     let signals = File::from(system::signals()?);
     let memory = options.memory.unwrap_or_else(half_of_memory);
-    let (mut child, to, from) = run(options, memory);
+    let mut runs = Runs::new(&options.program);
+    let (mut child, pipes) = run(&runs, memory);
     let most = (options.connections, options.connections_per_address);
-    let clients = clients::Clients::new(poll::Poll::new()?, to, options.limits, most, options.window);
-    tell(options, &listeners, memory);
+    let clients = clients::Clients::new(poll::Poll::new()?, options.limits, most, options.window);
+    let telling = Telling::new(options, &listeners, memory);
     let keeps_late = options.program.windows(2).any(|words| words[0] == "--sync" && words[1] == "second");
-    let mut server = Server::new(clients, from, listeners, signals, users, options.grace, keeps_late)?;
-    notify::notify("READY=1");
-    let mut begun = Vec::new();
+    let mut server = Server::new(clients, listeners, signals, users, telling, Manner { grace: options.grace, keeps_late })?;
+    server.begin(pipes)?;
     loop {
-        let why = server.run();
-        let failed = matches!(why, End::Program) && !server.is_stopping() && is_not_kept(&mut child, options.grace);
-        if !failed || !may_begin(&mut begun) {
-            // The program sees the end of its input.
-            drop(server);
-            return Ok(end_of(&mut child, why, options.grace));
+        match server.run() {
+            End::Due => {
+                let (next, pipes) = run(&runs, memory);
+                child = next;
+                server.begin(pipes)?;
+            }
+            End::Program if pauses(&mut server, &mut runs, &mut child, options.grace) => {}
+            why => {
+                let runs = server.has_program();
+                // The program sees the end of its input.
+                drop(server);
+                return Ok(if runs { end_of(&mut child, why, options.grace) } else { STOPPED });
+            }
         }
-        say(format_args!("the program could not keep what was changed; all connections are ended, and it is run again"));
-        let (next, to, from) = run(options, memory);
-        child = next;
-        server.begin_again(to, from)?;
     }
 }
 
-fn run(options: &Options, memory: u64) -> (Child, ToProgram, FromProgram) {
-    let started = program::start(&options.program, Some(memory).filter(|bytes| *bytes > 0));
-    let name = options.program[0].to_string_lossy();
+fn run(runs: &Runs, memory: u64) -> (Child, Pipes) {
+    let started = program::start(runs.words(), Some(memory).filter(|bytes| *bytes > 0));
+    let name = runs.words()[0].to_string_lossy();
     started.unwrap_or_else(|error| end(NO_PROGRAM, format_args!("{}: {}", name, error)))
 }
 
-fn is_not_kept(child: &mut Child, grace: u64) -> bool {
-    wait(child, grace.max(1000)).and_then(|status| status.code()) == Some(NOT_KEPT)
-}
-
-/// Whether the program may be run again now; that is noted then.
-fn may_begin(begun: &mut Vec<Instant>) -> bool {
-    begun.retain(|moment| moment.elapsed() < WITHIN);
-    let may = begun.len() < AGAIN;
-    if may {
-        begun.push(Instant::now());
+/// Whether a program that has ended is run again; then why and when is said, and it is paused until then.
+fn pauses(server: &mut Server, runs: &mut Runs, child: &mut Child, grace: u64) -> bool {
+    if server.is_stopping() {
+        return false;
     }
-    may
+    let served = server.served();
+    let status = wait(child, grace.max(1000));
+    let (why, pause) = match runs.again(status, served) {
+        Some(again) => again,
+        None => return false,
+    };
+    let status = status.map_or("ended".into(), |it| it.to_string());
+    let seconds = pause / 1000;
+    let when = match seconds {
+        0 => "at once".into(),
+        1 => "in 1 second".into(),
+        _ => format!("in {} seconds", seconds),
+    };
+    say(format_args!("the program {} ({}); all connections are ended, and it is run again {}", why, status, when));
+    server.pause(pause);
+    true
 }
 
 fn half_of_memory() -> u64 {
     let told = read_to_string("/proc/meminfo").unwrap_or_default();
     let kilobytes = told.split_whitespace().nth(1).and_then(|word| word.parse::<u64>().ok());
     kilobytes.map_or(0, |count| count * 512)
-}
-
-/// Tells where clients come, and what whoever starts this has to know.
-fn tell(options: &Options, listeners: &[Listener], memory: u64) {
-    let mut out = io::stdout();
-    for listener in listeners {
-        let _ = writeln!(out, "{}", listener.name());
-    }
-    let _ = out.flush();
-    if memory > 0 {
-        say(format_args!("the program may take {} MB of memory (--memory)", memory / 1_000_000));
-    }
-    let open: Vec<_> = listeners.iter().filter(|it| it.is_open()).map(Listener::name).collect();
-    if !open.is_empty() {
-        let has = |name: &str| options.program.iter().any(|word| word == name);
-        let open = open.join(" ");
-        if options.users.is_some() || has("--users") {
-            say(format_args!(
-                "whoever stands between a client and {open} can read passwords, unless only a proxy gets there: no TLS is spoken"
-            ));
-        } else {
-            let what = match (has("--user-header"), has("--read-only")) {
-                (true, _) => "name itself any user, unless only a proxy gets there",
-                (false, true) => "read everything",
-                (false, false) => "read and change everything",
-            };
-            say(format_args!("whoever reaches {open} can {what}"));
-        }
-        if has("--address-header") {
-            say(format_args!("whoever reaches {open} can say to be at any address, unless only a proxy gets there"));
-        }
-    }
 }
 
 /// Waits for the program to end, and kills it behind so many milliseconds; its status, if that is known.
@@ -216,15 +201,24 @@ fn wait(child: &mut Child, most: u64) -> Option<ExitStatus> {
 /// Waits for the program to end, as long as the grace lasts, and tells what it was.
 fn end_of(child: &mut Child, why: End, grace: u64) -> i32 {
     let status = wait(child, if matches!(why, End::Killed) { 0 } else { grace.max(1000) });
-    let ended = status.map_or("ended".into(), |it| it.to_string());
+    let told = status.map_or("ended".into(), |it| it.to_string());
+    let code = status.and_then(|it| it.code());
     match why {
-        End::Stopped | End::Killed => return STOPPED,
-        End::Program => say(format_args!("the program has ended: {}", ended)),
-        End::BadFrame => say(format_args!("the program tells what is no frame ({})", ended)),
+        End::Stopped if code.map_or(true, |it| it <= ALL_KEPT) => return STOPPED,
+        End::Killed | End::Due => return STOPPED,
+        End::Stopped | End::Program => say(format_args!("the program has ended: {}", told)),
+        End::BadFrame => {
+            say(format_args!("the program tells what is no frame ({})", told));
+            return WRONG_FRAME;
+        }
         End::Failed(what, error) => {
             say(format_args!("{}: {}", what, error));
             return FAILED;
         }
     }
-    PROGRAM_ENDED
+    match (status, code) {
+        (None, _) => FAILED,
+        (_, Some(code)) => (PROGRAM_ENDED + code).min(LAST_OF_PROGRAM),
+        _ => PROGRAM_KILLED,
+    }
 }

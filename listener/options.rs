@@ -6,7 +6,7 @@ use std::path::PathBuf;
 pub const USAGE: &str = "\
 usage: listen [OPTION VALUE].. [PORT] PROGRAM [WORD..]
 
-Listens for clients, runs the program, and moves their bytes to it and back, in frames. Prints a URL for each address once it listens.
+Listens for clients, runs the program, and moves their bytes to it and back, in frames. Prints a URL for each address once the program is ready.
 
   --listen ADDRESS:PORT           where to listen, several times: IPv4, [IPv6], a name, unix:PATH or unix:PATH,mode=660
                                   (600 without it); 127.0.0.1 at PORT, else 8080, where nothing is said or handed over
@@ -23,6 +23,16 @@ Listens for clients, runs the program, and moves their bytes to it and back, in 
   --users FILE                    who may log in, where the program has --login: it is told the text of the file first of all, and again
                                   on SIGHUP; not over 1 MiB
 ";
+
+fn is_numeral(word: &str) -> bool {
+    !word.is_empty() && word.bytes().all(|byte| byte.is_ascii_digit())
+}
+
+/// An Err says what a port is.
+pub fn read_port(word: &str) -> Result<u16, String> {
+    let port = Some(word).filter(|word| is_numeral(word)).and_then(|word| word.parse().ok());
+    port.ok_or_else(|| format!("{} is no port: a port is a number from 0, for any that is free, to 65535", word))
+}
 
 #[derive(Debug)]
 pub struct Options {
@@ -63,8 +73,8 @@ impl Options {
             let value = words.next().ok_or_else(|| format!("{} has no value", name))?;
             options.set(&name, value.to_str().unwrap_or(""))?;
         }
-        if let Some(port) = words.next_if(|word| word.to_str().map_or(false, |it| it.parse::<u16>().is_ok())) {
-            options.addresses.push(format!("127.0.0.1:{}", port.to_string_lossy()));
+        if let Some(port) = words.next_if(|word| is_numeral(&word.to_string_lossy())) {
+            options.addresses.push(format!("127.0.0.1:{}", read_port(&port.to_string_lossy())?));
         }
         if options.connections_per_address == 0 {
             options.connections_per_address = (options.connections / 2).max(1);
@@ -138,6 +148,9 @@ mod tests {
             ["", "80", "--idle 3", "--idle x program", "--idle 0 program", "--idle", "--none 1 program", "--rate -1 p", "--users a p"]
         {
             assert!(read(words).is_err(), "{}", words);
+        }
+        for port in ["65536", "99999999999999999999"] {
+            assert!(read(&format!("{} program", port)).unwrap_err().starts_with(&format!("{} is no port: ", port)));
         }
     }
 }

@@ -1,12 +1,12 @@
 //! The loop: whatever comes, from clients, the program or a signal, is looked at in turn.
 use crate::addresses::Listener;
 use crate::clients::{is_want, Clients, FIRST_KEY};
-use crate::frames;
+use crate::frames::{self, Line};
 use crate::notify::notify;
-use crate::poll::Poll;
-use crate::program::{FromProgram, ToProgram};
+use crate::program::{FromProgram, Pipes, Told};
 use crate::say;
 use crate::system::{self, Event, IN, OUT};
+use crate::telling::Telling;
 use crate::users::Users;
 use std::fs::File;
 use std::io::{self, ErrorKind, Read};
@@ -32,15 +32,21 @@ pub enum End {
     Stopped,
     /// A second signal came.
     Killed,
-    /// The program has ended, or tells what is no frame.
+    /// The program has ended, or tells what is no frame; or it is time to run the next one.
     Program,
     BadFrame,
+    Due,
     Failed(&'static str, io::Error),
 }
 
 pub struct Server {
     clients: Clients,
-    from: FromProgram,
+    /// What the program tells. While none runs, when the next one is due.
+    from: Option<FromProgram>,
+    due: u64,
+    /// Since when the program is ready; and what is told once the first one is.
+    ready: Option<u64>,
+    telling: Option<Telling>,
     listeners: Vec<Listener>,
     signals: File,
     users: Option<Users>,
@@ -60,41 +66,44 @@ pub struct Server {
     is_writing: bool,
 }
 
-fn add_program(poll: &Poll, to: &ToProgram, from: &FromProgram) -> io::Result<()> {
-    poll.add(to.file.as_raw_fd(), 0, TO_PROGRAM)?;
-    poll.add(from.file.as_raw_fd(), IN, FROM_PROGRAM)
+/// How it serves, by its words.
+pub struct Manner {
+    pub grace: u64,
+    /// Whether the program keeps what it has changed once it is told the moment.
+    pub keeps_late: bool,
 }
 
 impl Server {
+    /// Without a program, which is to begin next.
     pub fn new(
         clients: Clients,
-        from: FromProgram,
         listeners: Vec<Listener>,
         signals: File,
         users: Option<Users>,
-        grace: u64,
-        keeps_late: bool,
+        telling: Telling,
+        manner: Manner,
     ) -> io::Result<Server> {
-        let poll = &clients.poll;
-        add_program(poll, &clients.to, &from)?;
-        poll.add(signals.as_raw_fd(), IN, SIGNALS)?;
+        clients.poll.add(signals.as_raw_fd(), IN, SIGNALS)?;
         for (listener, key) in listeners.iter().zip(FIRST_LISTENER..FIRST_KEY) {
-            poll.add(listener.file(), IN, key)?;
+            clients.poll.add(listener.file(), IN, key)?;
         }
         let mut server = Server {
             clients,
-            from,
+            from: None,
+            due: 0,
+            ready: None,
+            telling: Some(telling),
             listeners,
             signals,
             users,
             reads_users: false,
-            grace,
+            grace: manner.grace,
             began: Instant::now(),
             listens: true,
             listens_again: 0,
             ticks: TICK,
             stops: None,
-            keeps_late,
+            keeps_late: manner.keeps_late,
             keeps: None,
             is_writing: false,
         };
@@ -102,14 +111,35 @@ impl Server {
         Ok(server)
     }
 
-    /// Goes on with another program, behind one that has ended.
-    pub fn begin_again(&mut self, to: ToProgram, from: FromProgram) -> io::Result<()> {
-        // The pipes of the other one are closed, and so the poll knows them no more.
-        self.from = from;
-        self.clients.begin_again(to);
-        self.tell_users();
+    /// Goes on with a program.
+    pub fn begin(&mut self, pipes: Pipes) -> io::Result<()> {
+        self.clients.poll.add(pipes.to.as_raw_fd(), 0, TO_PROGRAM)?;
+        self.clients.poll.add(pipes.from.as_raw_fd(), IN, FROM_PROGRAM)?;
+        self.clients.to.file = Some(pipes.to);
+        self.from = Some(FromProgram::new(pipes.from));
+        Ok(())
+    }
+
+    /// Waits so many milliseconds for the next program, behind one that has ended.
+    pub fn pause(&mut self, milliseconds: u64) {
+        // The pipes of that one are closed, and so the poll knows them no more.
+        self.from = None;
+        self.ready = None;
+        self.clients.begin_again();
         self.is_writing = false;
-        add_program(&self.clients.poll, &self.clients.to, &self.from)
+        self.tell_users();
+        self.clients.now = self.began.elapsed().as_millis() as u64;
+        self.due = self.clients.now + milliseconds;
+    }
+
+    /// For how many milliseconds the program has served; none where it wasn't ready.
+    pub fn served(&self) -> Option<u64> {
+        let now = self.began.elapsed().as_millis() as u64;
+        self.ready.map(|since| now - since)
+    }
+
+    pub fn has_program(&self) -> bool {
+        self.from.is_some()
     }
 
     pub fn is_stopping(&self) -> bool {
@@ -132,8 +162,9 @@ impl Server {
     fn turn(&mut self, events: &mut [Event]) -> Result<(), End> {
         // Where the program asks for more, all that has come by now is looked at first.
         let is_asked = self.clients.is_asked;
-        let time = if is_asked { 0 } else { self.ticks.saturating_sub(self.clients.now) as i32 };
-        let is_idle = self.clients.is_empty() && self.listens && self.stops.is_none() && self.keeps.is_none();
+        let next = if self.from.is_none() { self.ticks.min(self.due) } else { self.ticks };
+        let time = if is_asked { 0 } else { next.saturating_sub(self.clients.now) as i32 };
+        let is_idle = self.clients.is_empty() && self.listens && self.stops.is_none() && self.keeps.is_none() && self.from.is_some();
         let time = if is_idle && !is_asked { -1 } else { time };
         let count = self.clients.poll.wait(events, time).map_err(|error| End::Failed("waiting", error))?;
         self.clients.now = self.began.elapsed().as_millis() as u64;
@@ -158,6 +189,7 @@ impl Server {
         }
         match self.stops {
             Some(stops) if self.clients.is_empty() || self.clients.now >= stops => Err(End::Stopped),
+            None if self.from.is_none() && self.clients.now >= self.due => Err(End::Due),
             _ => Ok(()),
         }
     }
@@ -178,35 +210,55 @@ impl Server {
 
     fn write_out(&mut self) -> Result<(), End> {
         let is_left = self.clients.write_out().map_err(|error| End::Failed("writing to the program", error))?;
-        if is_left != self.is_writing {
-            self.is_writing = is_left;
-            let (file, events) = (self.clients.to.file.as_raw_fd(), if is_left { OUT } else { 0 });
-            self.clients.poll.change(file, events, TO_PROGRAM).map_err(|error| End::Failed("waiting for the program", error))?;
+        match &self.clients.to.file {
+            Some(file) if is_left != self.is_writing => {
+                self.is_writing = is_left;
+                let events = if is_left { OUT } else { 0 };
+                let changed = self.clients.poll.change(file.as_raw_fd(), events, TO_PROGRAM);
+                changed.map_err(|error| End::Failed("waiting for the program", error))
+            }
+            _ => Ok(()),
         }
-        Ok(())
     }
 
     fn read_program(&mut self) -> Result<(), End> {
         for _ in 0..AT_ONCE {
-            if self.clients.move_piece(&mut self.from) {
+            let from = match &mut self.from {
+                Some(from) => from,
+                None => return Ok(()),
+            };
+            if self.clients.move_piece(from) {
                 continue;
             }
-            match self.from.read() {
+            match from.read() {
                 Ok(0) => return Err(End::Program),
                 Ok(_) => {}
                 Err(error) if error.kind() == ErrorKind::WouldBlock => return Ok(()),
                 Err(error) if error.kind() == ErrorKind::Interrupted => return Ok(()),
                 Err(error) => return Err(End::Failed("reading of the program", error)),
             }
-            let was_filled = self.from.was_filled();
-            while let Some(told) = self.from.next().map_err(|()| End::BadFrame)? {
+            let was_filled = from.was_filled();
+            let mut is_ready = false;
+            while let Some(told) = from.next().map_err(|()| End::BadFrame)? {
+                is_ready |= matches!(told, Told::Line(Line::Ready));
                 self.clients.told(told);
+            }
+            if is_ready {
+                self.go_on_ready();
             }
             if !was_filled {
                 return Ok(());
             }
         }
         Ok(())
+    }
+
+    /// The program serves from now on. Whoever started this is told so the first time.
+    fn go_on_ready(&mut self) {
+        self.ready = Some(self.clients.now);
+        if let (Some(telling), None) = (self.telling.take(), self.stops) {
+            telling.tell();
+        }
     }
 
     // ---- Clients that come.
@@ -272,6 +324,10 @@ impl Server {
                 return Err(End::Killed);
             }
             notify("STOPPING=1");
+            if self.from.is_none() {
+                // Nobody can be answered.
+                return Err(End::Stopped);
+            }
             self.listeners.clear();
             self.stops = Some(self.clients.now + self.grace);
             self.clients.stop();
@@ -288,17 +344,20 @@ impl Server {
         }
     }
 
-    /// Tells the program a file that was read again. Where it can't be read, that is said, and the users stay.
+    /// Tells the program a file that was read again, where it has another text. Where it can't be read, that is said, and the users stay.
     fn read_users(&mut self) {
         self.reads_users = false;
         let users = match &mut self.users {
             Some(users) => users,
-            None => return say(format_args!("a hang-up reads nothing again: there is no --users")),
+            None => return say(format_args!("a hang-up has changed nothing: there is no --users")),
         };
-        if let Err(error) = users.read_again() {
-            return say(format_args!("the users stay: {}: {}", users.path().display(), error));
+        let read = users.read_again();
+        let path = users.path().display();
+        match read {
+            Ok(true) => say(format_args!("the users of {} are read again", path)),
+            Ok(false) => return say(format_args!("a hang-up has changed nothing: the users of {} are the same", path)),
+            Err(error) => return say(format_args!("the users stay: {}: {}", path, error)),
         }
-        say(format_args!("the users of {} are read again", users.path().display()));
         self.tell_users();
     }
 }

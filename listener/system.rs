@@ -12,6 +12,9 @@ pub const HANG_UP: u32 = 16;
 /// A hang-up. With an interrupt (2) and a request to terminate (15) it is one of the signals that are told in a file, and end neither this process nor the program.
 pub const HUNG_UP: u32 = 1;
 const SIGNALS: [u64; 16] = [1 | 1 << 1 | 1 << 14, 0, 0, 0, 0, 0, 0, 0, 0, 0, 0, 0, 0, 0, 0, 0];
+/// The signal of a file that becomes longer than a process may make it, SIGXFSZ; and that a signal is ignored.
+const TOO_LONG: c_int = 25;
+const IGNORED: isize = 1;
 
 pub const UNIX: c_int = 1;
 pub const STREAM: c_int = 1;
@@ -52,6 +55,7 @@ extern "C" {
     fn splice(from: c_int, at: *mut c_void, to: c_int, place: *mut c_void, most: usize, flags: c_uint) -> isize;
     fn signalfd(file: c_int, signals: *const [u64; 16], flags: c_int) -> c_int;
     fn sigprocmask(how: c_int, signals: *const [u64; 16], before: *mut c_void) -> c_int;
+    fn signal(number: c_int, action: isize) -> isize;
     fn getrlimit(what: c_int, limit: *mut [u64; 2]) -> c_int;
     fn setrlimit(what: c_int, limit: *const [u64; 2]) -> c_int;
     fn setsid() -> c_int;
@@ -137,11 +141,12 @@ pub fn limit(what: c_int, wanted: u64) -> io::Result<u64> {
     checked(unsafe { setrlimit(what, &limit) }).map(|_| limit[0])
 }
 
-/// The command will run in a session of its own, and with so much memory at most. The end of its input ends it, and no signal that is told here.
+/// The command will run in a session of its own, and with so much memory at most. The end of its input ends it, and no signal that is told here; a file that becomes too long fails its write alone.
 pub fn set_apart(command: &mut Command, memory: Option<u64>) {
     let apart = move || {
         checked(unsafe { setsid() })?;
         block_signals()?;
+        checked(unsafe { signal(TOO_LONG, IGNORED) })?;
         memory.map_or(Ok(0), |bytes| limit(ADDRESS_SPACE, bytes)).map(drop)
     };
     // SAFETY: these calls may be made between fork and exec.

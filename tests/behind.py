@@ -1,21 +1,32 @@
 """A program behind the listener, for its tests: it speaks the frames of davserve (docs/FORMATS.md), and checks each that comes.
 
-behind.py serve|echo SEED [DEAF [--login]]     DEAF: it reads nothing for so many seconds at first
+behind.py serve|echo SEED [DEAF [WORD..]]     DEAF: once it is ready it reads nothing for so many seconds
+
+It first tells that it is ready, with `--login` once it knows the users. Where READY_WHEN is set, it waits for a file with this path before. Where NOTES is set, it appends its words to this file as it begins, and the moment; and the moment at which it ends by `end` or `die`.
 
 With `serve` it answers lines: `get N` by N bytes, `last N` by N bytes behind which the connection is over, `wait N` by `ok` after so many milliseconds, `work N` by the same while it does nothing else, `put N` and N bytes behind it by `ok` and N, `who` by the address that was told of its client, `users` by the names of the users, and any other by
-`refused`, behind which the connection is over. At `end N` it ends with this status. With `echo` it sends back what comes. What it tells is cut at random, and so it asks for more. Ends with 0, and says how many connections are left that are neither over nor gone; or with 4 and a reason where a frame is wrong.
+`refused`, behind which the connection is over. At `end N` it ends with this status, at `die` by SIGKILL. With `echo` it sends back what comes. What it tells is cut at random, and so it asks for more. Ends with 0, and says how many connections are left that are neither over nor gone; or with 4 and a reason where a frame is wrong.
 
 With `--login` it wants the users first of all, and else it wants none. A line of theirs without a colon is wrong: its number is told, and where these are the first users it ends with 7; else those before stay.
 """
+import json
 import os
 import random
 import select
+import signal
 import sys
 import time
 
 WINDOW, LARGEST, MOST = 262_144, 1_048_576, 1 << 63
 HALF = WINDOW // 2
 PATTERN = bytes(n % 251 for n in range(251 * 1024))
+
+
+def note(*what):
+    """Appends something to the notes, and the moment."""
+    if path := os.environ.get("NOTES"):
+        with open(path, "a", encoding="utf-8") as notes:
+            print(json.dumps([time.monotonic(), *what]), file=notes)
 
 
 def pattern(count):
@@ -54,7 +65,18 @@ class Program:
         self.connections, self.input, self.output, self.is_open = {}, bytearray(), bytearray(), True
         # The numbers of those that something came of, or whose answer is due later.
         self.touched = set()
-        time.sleep(deaf)
+        self.deaf, self.is_ready = deaf, False
+        if not logs_in:
+            self.tell_ready()
+
+    def tell_ready(self):
+        path = os.environ.get("READY_WHEN")
+        while path and not os.path.exists(path):
+            time.sleep(0.02)
+        self.output += b"ready\n"
+        self.is_ready = True
+        self.write()
+        time.sleep(self.deaf)
 
     def wrong(self, why):
         print(f"behind: {why}", file=sys.stderr, flush=True)
@@ -111,7 +133,9 @@ class Program:
             if self.users is None:
                 os._exit(7)
         else:
-            self.users = [line.partition(b":")[0] for line in lines]
+            is_first, self.users = self.users is None, [line.partition(b":")[0] for line in lines]
+            if is_first:
+                self.tell_ready()
 
     def take_taken(self, number, count):
         it = self.connections.get(number)
@@ -178,7 +202,11 @@ class Program:
         elif word == b"put":
             it.put = it.body = count
         elif word == b"end":
+            note("ends")
             os._exit(count)
+        elif word == b"die":
+            note("ends")
+            os.kill(os.getpid(), signal.SIGKILL)
         else:
             it.out += b"refused\n"
             it.closes = True
@@ -239,7 +267,7 @@ class Program:
                 if not self.connections[number].is_over and not self.connections[number].is_gone:
                     self.go_on(number, self.connections[number])
             self.touched = {number for number in self.touched if self.is_due(self.connections[number])}
-            if not self.asked and self.is_open and self.random.random() < 0.3:
+            if not self.asked and self.is_open and self.is_ready and self.random.random() < 0.3:
                 self.asked = 1
                 self.output += b"more\n"
             self.write()
@@ -248,7 +276,8 @@ class Program:
 
 
 if __name__ == "__main__":
+    note("begins", *sys.argv[4:])
     try:
-        Program(sys.argv[1], int(sys.argv[2]), float(sys.argv[3]) if len(sys.argv) > 3 else 0, sys.argv[4:] == ["--login"]).run()
+        Program(sys.argv[1], int(sys.argv[2]), float(sys.argv[3]) if len(sys.argv) > 3 else 0, "--login" in sys.argv[4:]).run()
     except BrokenPipeError:
         os._exit(1)

@@ -64,7 +64,7 @@ static int fails(const char *called) {
         static result(*real) parameters;                                         \
         if (!real)                                                               \
             real = (result(*) parameters)dlsym(RTLD_NEXT, #called);              \
-        return fails(#called) ? -1 : real arguments;                             \
+        return fails(#called) ? (result)-1 : real arguments;                     \
     }
 
 CALL(int, epoll_create1, (int flags), (flags))
@@ -79,6 +79,7 @@ CALL(int, setsockopt, (int file, int level, int option, const void *value, sockl
 CALL(int, shutdown, (int file, int how), (file, how))
 CALL(int, signalfd, (int file, const sigset_t *set, int flags), (file, set, flags))
 CALL(pid_t, setsid, (void), ())
+CALL(sighandler_t, signal, (int number, sighandler_t does), (number, does))
 CALL(int, ioctl, (int file, unsigned long what, void *value), (file, what, value))
 CALL(int, fcntl, (int file, int what, long value), (file, what, value))
 CALL(int, sigprocmask, (int how, const sigset_t *set, sigset_t *before), (how, set, before))

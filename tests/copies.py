@@ -7,7 +7,7 @@ import struct
 import subprocess
 import time
 
-from frames import frame, request
+from frames import READY, frame, request
 from records import draft_of
 
 # So many copies that end somewhere are adopted.
@@ -350,9 +350,8 @@ def standby(stores, davserve):
     number_of = 0
     right = tries = 0
     with subprocess.Popen(run, stdin=subprocess.PIPE, stdout=subprocess.PIPE, stderr=subprocess.DEVNULL) as server:
+        yield "the server is ready", server.stdout.readline() == READY and os.path.exists(stores.path)
         for turn in range(KILLS):
-            while not os.path.exists(stores.path):
-                time.sleep(0.02)
             words = [str(used(copy))] if turn % 2 and os.path.exists(copy) else []
             pipe.start(*words)
             end = time.monotonic() + chance.random() * 0.6

@@ -228,4 +228,4 @@ def guesses_and_changes(davserve, listen, folder, hashed):
         yield "told addresses: a clean end", it.end() == 0
     change(None, "ann:$5$saltsalt$x\n\nben\n")
     with listening(listen, users=path, program=[davserve, "--login"]) as it:
-        yield "a wrong line at the start", it.wait() == 5 and "exit status: 7" in it.told() and "line" in it.told()
+        yield "a wrong line at the start", it.wait() == 27 and "exit status: 7" in it.told() and "line" in it.told()

@@ -19,16 +19,22 @@ LARGE = 20_000_000
 
 
 class Listening:
-    """A listener that runs. `wrong` has what is wrong with how it ended."""
+    """A listener that runs. Its URLs are read once its program is ready, or by read_urls where that is not waited for."""
 
-    def __init__(self, listen, words=(), mode="serve", deaf=0, users=None, program=None, environment=None, **more):
+    def __init__(self, listen, words=(), mode="serve", deaf=0, users=None, program=None, environment=None, waits=True, **more):
         behind = program or [sys.executable, os.path.join(HERE, "behind.py"), mode, "1", str(deaf), *(["--login"] if users else [])]
         words = [*words, *(["--users", users] if users else [])]
         words = words if "--listen" in words else [*words, "0"]
         self.said = tempfile.TemporaryFile()
         self.child = subprocess.Popen([listen, *words, *behind], stdout=subprocess.PIPE, stderr=self.said, env={**os.environ, **(environment or {})}, **more)
         self.status = None
-        self.urls = [self.child.stdout.readline().decode().strip() for _ in range(max(1, words.count("--listen")))]
+        # What it tells behind its URLs is known once it has ended.
+        self.urls, self.count, self.rest = [], max(1, words.count("--listen")), None
+        if waits:
+            self.read_urls()
+
+    def read_urls(self):
+        self.urls = [self.child.stdout.readline().decode().strip() for _ in range(self.count)]
 
     @property
     def port(self):
@@ -78,6 +84,7 @@ class Listening:
         except subprocess.TimeoutExpired:
             self.child.kill()
             self.status = "never"
+        self.rest = self.child.stdout.read()
         self.child.stdout.close()
         return self.status
 
@@ -99,6 +106,21 @@ def listening(listen, words=(), **more):
             it.signal()
             it.wait()
         it.said.close()
+
+
+def failed_start(listen, words, behind=None, **more):
+    """The status of a listener that ends by itself, and what it says."""
+    told = subprocess.run([listen, *words, *(behind or ["cat"])], stdin=subprocess.DEVNULL, capture_output=True, timeout=PATIENCE, check=False, **more)
+    return told.returncode, told.stderr.decode()
+
+
+def comes(it):
+    """Whether one can connect."""
+    try:
+        it.connect().close()
+    except OSError:
+        return False
+    return True
 
 
 def all_of(file):

@@ -34,6 +34,18 @@ def asks(family, address, text, source=None):
         return whole(client)
 
 
+def change(path, text):
+    """Puts a file in place whole."""
+    write(path + ".new", text)
+    os.replace(path + ".new", path)
+
+
+def hang_up(it, path, text):
+    """A hang-up, behind which the users are others."""
+    change(path, text)
+    it.signal(signal.SIGHUP)
+
+
 def places(listen, has_ipv6):
     """The address of each client is told right before its first bytes."""
     with listening(listen) as it:
@@ -85,8 +97,10 @@ def users(listen, _):
             yield "and not again of themselves", it.asks(b"users\n") == b"ann,ben\n"
             it.signal(signal.SIGHUP)
             yield "a hang-up tells them again", is_told(it, b"ben,cid")
-            for what, change in changes(path):
-                change()
+            it.signal(signal.SIGHUP)
+            yield "one that has changed nothing says that alone", until(lambda: it.told().count(f"a hang-up has changed nothing: the users of {path} are the same") == 1) and it.told().count("read again") == 1
+            for what, change_file in changes(path):
+                change_file()
                 before = it.told().count("the users stay")
                 it.signal(signal.SIGHUP)
                 yield f"{what} is told", until(lambda: it.told().count("the users stay") == before + 1) and path in it.told()
@@ -115,16 +129,16 @@ def wrong_starts(listen, folder, path):
     """Each begins anew with such a file, and leaves none."""
     from_nothing = [*changes(path)]
     write(path, "")
-    for what, change in from_nothing:
-        change()
+    for what, change_file in from_nothing:
+        change_file()
         with listening(listen, users=path) as it:
             yield f"{what} at the start", it.wait() == 7 and path in it.told() and it.urls == [""]
     write(path, "ann:x\nben:y\n\n")
     with listening(listen, users=path) as it:
-        yield "a wrong line at the start", it.wait() == 5 and "line 3" in it.told() and "exit status: 7" in it.told()
+        yield "a wrong line at the start", it.wait() == 27 and "line 3" in it.told() and "exit status: 7" in it.told()
+    write(path, USERS)
     with listening(listen, ["--listen", "0.0.0.0:0"], users=path) as it:
-        it.wait()
-        yield "users on an open address", "can read passwords" in it.told()
+        yield "users on an open address", until(lambda: "can read passwords" in it.told())
     os.remove(path)
 
 
@@ -132,25 +146,27 @@ def hang_ups(listen, _):
     """A hang-up ends nothing and loses nothing, however many there are, and at whatever moment."""
     with listening(listen) as it:
         it.signal(signal.SIGHUP)
-        yield "without users a hang-up says so", until(lambda: "there is no --users" in it.told())
+        yield "without users a hang-up says so", until(lambda: "a hang-up has changed nothing: there is no --users" in it.told())
         for number in (signal.SIGHUP, signal.SIGTERM, signal.SIGINT):
             os.kill(it.program(), number)
         yield "signals don't end the program", it.asks(b"get 3\n") == pattern(3) and it.end() == 0
     with tempfile.TemporaryDirectory() as folder:
         path = os.path.join(folder, "users")
-        write(path, "x:" + "y" * (LARGEST - 3) + "\n")
+        long = ["x:" + letter * (LARGEST - 3) + "\n" for letter in "yz"]
+        write(path, long[0])
         with listening(listen, users=path, deaf=2) as it:
             end = time.monotonic() + 1
             while time.monotonic() < end:
-                it.signal(signal.SIGHUP)
+                long.reverse()
+                hang_up(it, path, long[0])
             yield "a program that reads nothing has no more than some users wait", it.asks(b"users\n") == b"x\n" and it.memory() < 20
         write(path, USERS)
         with listening(listen, ["--head", "600"], users=path) as it, it.connect() as sending, it.connect(room=65536) as taking:
             sending.sendall(b"put 1000000\n")
             taking.sendall(b"get %d\n" % LARGE)
             taken = 0
-            for _ in range(100):
-                it.signal(signal.SIGHUP)
+            for number in range(100):
+                hang_up(it, path, f"{USERS}cid:{number}\n")
                 sending.sendall(bytes(10_000))
                 piece = receive(taking, 100_000)
                 if piece != (pattern(100_000 + 251)[taken % 251 :])[:100_000]:
@@ -159,26 +175,28 @@ def hang_ups(listen, _):
             yield "an upload goes on through a hundred hang-ups", receive(sending, 11) == b"ok 1000000\n"
             yield "and a download", taken == 10_000_000
             it.signal()
-            it.signal(signal.SIGHUP)
+            hang_up(it, path, USERS)
             yield "and behind a first signal, up to its end", len(whole(taking)) == LARGE - taken and it.wait() == 0
         with listening(listen, mode="echo", users=path) as it:
             clients = breaking.Clients(2, it.port, 1 << 60)
-            counts = asyncio.run(beside_hang_ups(it, clients))
+            counts = asyncio.run(beside_hang_ups(it, path, clients))
             followed, played = it.told().count("read again"), clients.played()
             yield f"of {played} random clients beside {followed} of them {counts['wrong']} are answered wrongly", counts["wrong"] == 0 and played > breaking.AT_ONCE and followed >= HANG_UPS
             yield "hang-ups: a clean end", it.end() == 0
 
 
-async def beside_hang_ups(it, clients):
+async def beside_hang_ups(it, path, clients):
     """What random clients come to that go on until so many hang-ups were followed, and more of them have come than there are places."""
     played, is_over = asyncio.ensure_future(clients.play()), threading.Event()
 
-    def hang_up():
+    def hang_up_often():
+        number = 0
         while not is_over.wait(0.005):
-            it.signal(signal.SIGHUP)
+            number += 1
+            hang_up(it, path, f"{USERS}cid:{number}\n")
 
     # Beside what the clients do, which may take longer than many hang-ups.
-    hangs_up = threading.Thread(target=hang_up)
+    hangs_up = threading.Thread(target=hang_up_often)
     hangs_up.start()
     try:
         while not played.done():

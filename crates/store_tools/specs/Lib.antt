@@ -1,3 +1,4 @@
 pub mod Adding
+pub mod EndedLocks
 pub mod ImportedEntries
 pub mod Importing

@@ -96,8 +96,8 @@ pub fn add(
     }
 }
 
-// The moment of the next entry.
-fn moment_behind(last: Moment, clock: Moment) -> Result<Moment, Unimported>
+/// The moment of what comes next: the clock's where that is later than the last one, and else the nanosecond behind that. `NoMoment` where none is.
+pub(crate) fn moment_behind(last: Moment, clock: Moment) -> Result<Moment, Unimported>
     ensures ok { IfOk result (λ now. now.0 ≡ moment_behind last.0 clock.0) }
     ensures err { IfErr result (λ e. (e ≡ why.NoMoment) × (last.0 ≡ u64.MAX)) }
 {

@@ -14,6 +14,8 @@ pub enum What<'a> {
     New,
     /// What stands in this folder of the system is put into it.
     Import(&'a str),
+    /// The lock with this token is ended.
+    Unlock(&'a str),
     /// Its rounds are written out as they come, from the one on that ends at this byte.
     Follow(Option<u64>),
     /// What comes from one that is followed is added to it.
@@ -27,6 +29,8 @@ pub enum Purpose<'a> {
     Check,
     /// What stands in it is told, at and below this path.
     List(&'a str),
+    /// Its locks are told.
+    Locks,
     /// What stands in it is put into this folder of the system, which is made.
     Export(&'a str),
     /// What stood in it before it is broken is put into this file, which is made.
@@ -45,7 +49,7 @@ pub struct Choices<'a> {
 }
 
 impl<'a> Choices<'a> {
-    /// A path, and then `check`; or `list` with a folder or without one; or `log`, with `--bodies` or without it; or `compact`; or `new`; or `import` or `export` with a folder of the system; or `salvage` with a file; or
+    /// A path, and then `check`; or `list` with a folder or without one; or `locks`; or `unlock` with a token; or `log`, with `--bodies` or without it; or `compact`; or `new`; or `import` or `export` with a folder of the system; or `salvage` with a file; or
     /// `adopt`, with `--yes` or without it; or `follow`, with a number of bytes or without one; or `take`. None where the words are other than that.
     pub fn of(words: &'a [String]) -> Option<Choices<'a>> {
         let (path, rest) = words.split_first()?;
@@ -66,6 +70,7 @@ fn alone<'a>(word: &str) -> Option<What<'a>> {
     match word {
         "check" => Some(What::Read(Purpose::Check)),
         "list" => Some(What::Read(Purpose::List("/"))),
+        "locks" => Some(What::Read(Purpose::Locks)),
         "log" => Some(What::Log(false)),
         "compact" => Some(What::Compact),
         "new" => Some(What::New),
@@ -80,6 +85,7 @@ fn alone<'a>(word: &str) -> Option<What<'a>> {
 fn with<'a>(word: &str, next: &'a str) -> Option<What<'a>> {
     match word {
         "list" => Some(What::Read(Purpose::List(next))),
+        "unlock" => Some(What::Unlock(next)),
         "import" => Some(What::Import(next)),
         "export" => Some(What::Read(Purpose::Export(next))),
         "salvage" => Some(What::Read(Purpose::Salvage(next))),

@@ -97,8 +97,8 @@ fn stand<O: Write + Drop>(
     }
 }
 
-// Tells that a crash has left the file as it was made.
-fn tell_empty<O: Write + Drop>(path: &str, output: &mut BufWriter<O>) -> io::Result<()> {
+/// Tells that a crash has left the file as it was made.
+pub(crate) fn tell_empty<O: Write + Drop>(path: &str, output: &mut BufWriter<O>) -> io::Result<()> {
     writeln!(
         output,
         "{path} is empty: nothing was ever kept in it, so remove it to have a new one"
@@ -172,8 +172,8 @@ fn import_from<D: Disk, O: Write + Drop>(
     importer.tell_end(output)
 }
 
-// The stores that the journal keeps. How far the file was read is told.
-fn read_all<D: Disk>(
+/// The stores that the journal keeps. How far the file was read is told.
+pub(crate) fn read_all<D: Disk>(
     rt: &HostRuntime,
     path: &str,
     journal: &mut Journal<D, ()>,

@@ -1,8 +1,9 @@
-//! What a program does with a file of stores, as words ask for it: it is looked into, exported, salvaged, compacted, imported into, followed, or adopted as a copy. And what is proved of an import.
+//! What a program does with a file of stores, as words ask for it: it is looked into, exported, salvaged, compacted, imported into, relieved of a lock, followed, or adopted as a copy. And what is proved of an import.
 #![tactic(auto)]
 
 mod adding;
 mod choices;
+mod ending;
 mod entries;
 mod exporting;
 mod importing;
@@ -12,8 +13,10 @@ mod looks;
 mod properties;
 mod running;
 mod sources;
+mod unlocking;
 
 pub use adding::{Unimported, add, check_free};
+pub use ending::{Unended, end_lock};
 pub use entries::Entry;
 pub use laws::imports_are_kept;
 pub use properties::{NAME, NAMESPACE, time_of};

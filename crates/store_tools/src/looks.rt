@@ -6,7 +6,7 @@ use std::io::{self, BufWriter, Write};
 use store_files::{Opening, Uncompacted, Unwatched, make_store};
 use store_views::{
     Broken, Failure, Found, Front, Seen, Tail, Whole, adopt, end_of, header_of, is_wanted,
-    later_in, list, look, read_front, round_behind, tell_later,
+    later_in, list, list_locks, look, read_front, round_behind, tell_later,
 };
 
 /// Reads the file to its end, and does what is asked. Whether it is whole, and something is there to tell, and all was done.
@@ -80,6 +80,7 @@ fn do_whole<O: Write + Drop>(
             Ok(false)
         }
         Purpose::List(folder) => Ok(list(rt.alloc(), &whole.opened.stores, folder, output)?),
+        Purpose::Locks => Ok(list_locks(rt.alloc(), &whole.opened.stores, output)?),
         Purpose::Export(folder) => export(rt, &whole.opened.stores, folder, output),
         Purpose::Salvage(_) | Purpose::Adopt(_) => {
             tell_whole(whole, output)?;

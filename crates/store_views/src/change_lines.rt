@@ -91,7 +91,7 @@ fn push_lock(line: &mut String, command: &Command) -> Result<(), AllocError> {
     }
 }
 
-fn kind_of(is_shared: bool, is_deep: bool) -> &'static str {
+pub(crate) fn kind_of(is_shared: bool, is_deep: bool) -> &'static str {
     match (is_shared, is_deep) {
         (true, true) => " shared deep",
         (true, false) => " shared shallow",
@@ -124,7 +124,7 @@ fn push_word(line: &mut String, text: &str) -> Result<(), AllocError> {
 }
 
 // A blank and the number; `none` where there is none.
-fn push_number<I: Integer + Copy>(
+pub(crate) fn push_number<I: Integer + Copy>(
     line: &mut String,
     number: &Option<I>,
     none: &str,
@@ -139,7 +139,7 @@ fn push_number<I: Integer + Copy>(
     }
 }
 
-fn push_option(line: &mut String, text: &Option<String>) -> Result<(), AllocError> {
+pub(crate) fn push_option(line: &mut String, text: &Option<String>) -> Result<(), AllocError> {
     match text {
         Some(text) => push_name(line, text.as_str().as_bytes()),
         None => line.push('-'),

@@ -1,0 +1,125 @@
+//! A lock is ended by whoever may write the file of the stores.
+ghost use Rattle.std.specs.Prelude.{◌≡◌, [], ◌∷◌, ◌++◌, ℕ, List, IfOk, OnErr, OnOk};
+ghost use Rattle.dav_path_core.specs.Segments.{segments};
+ghost use Rattle.journal_core.specs.Resting.{Carries};
+ghost use Rattle.rand_core.specs.Stream.{Stream};
+ghost use Rattle.dav_guarded_core.specs.Served.{command_of};
+ghost use Rattle.dav_notes_core.specs.Noting.{note_of};
+ghost use Rattle.dav_notes_core.specs.Stepping.{Draws};
+ghost use Rattle.dav_notes_core.specs.PlayedNotes.{NotePlayed};
+ghost use Rattle.store_tools.specs.EndedLocks.{IsEnded, ending_note};
+
+use crate::adding::moment_behind;
+use dav_effects_core::write;
+use dav_guarded_core::fs::Moment;
+use dav_guarded_core::guarded::{Command, Guarded, Refusal, Request};
+use dav_locks_core::ls::DavLock;
+use dav_notes_core::notes::{Note, apply_given};
+use dav_path_core::errors::FsError;
+use dav_store_core::{Opened, add_record};
+use journal_core::Round;
+use std::alloc::{AllocError, Global};
+
+// It stands beside the lock's own token, and tells that no client has asked for it.
+const OPERATOR: &str = "urn:dav-resource-core:operator";
+
+/// Why a lock is not ended (own).
+#[derive(Clone, Copy)]
+pub enum Unended {
+    /// There is no lock with the token, or its moment has come.
+    NoLock,
+    /// No moment comes behind the last one.
+    NoMoment,
+    /// There is no memory for it. The stores may have lost the lock, and have no record of that: they are to be let go.
+    OutOfMemory,
+}
+
+impl From<AllocError> for Unended {
+    fn from(_error: AllocError) -> Unended {
+        Unended::OutOfMemory
+    }
+}
+
+/// Ends the lock with this token, and adds its record to the round (own). The request is that of the lock's principal, and names a token of its own beside the lock's, by which the record is told from a client's.
+///
+/// - `NoLock`: there is none, or it has expired. `NoMoment`: the last moment is the greatest. `OutOfMemory`: there is no memory for it.
+pub fn end_lock(
+    alloc: Global,
+    opened: &mut Opened,
+    round: &mut Round,
+    token: &str,
+    clock: Moment,
+) -> Result<(), Unended>
+    ensures ended { OnOk result (IsEnded opened.old.stores opened.old.last.0 clock.0 token.now opened.new.stores opened.new.last.0
+        (λ bytes. (records : List (List ℕ)) → Carries round.old records → Carries round.new (records ++ bytes ∷ []))) }
+    // At an error the round is as it was.
+    ensures round { OnErr result ((records : List (List ℕ)) → Carries round.old records → Carries round.new records) }
+{
+    let Ok(now) = moment_behind(opened.last, clock) else {
+        return Err(Unended::NoMoment);
+    };
+    let Some(lock) = lock_with(&opened.stores, token) else {
+        return Err(Unended::NoLock);
+    };
+    let note = note_ending(alloc, lock, token, now)?;
+    let notes = vec![in alloc; note]?;
+    let pieces = write(alloc, &notes)?;
+    let Some(note) = notes.first() else {
+        unreachable!();
+    };
+    opened.last = now;
+    play(&mut opened.stores, note)?;
+    Ok(add_record(round, pieces)?)
+}
+
+// The lock with this token.
+fn lock_with<'a>(stores: &'a Guarded, token: &str) -> Option<&'a DavLock> {
+    for lock in stores.locks() {
+        if lock.token.as_str() == token {
+            return Some(lock);
+        }
+    }
+    None
+}
+
+// The request that ends the lock, at this moment.
+fn note_ending(alloc: Global, lock: &DavLock, token: &str, now: Moment) -> Result<Note, AllocError>
+    ensures { IfOk result (λ note. note_of note ≡ ending_note now.0 (lock.now.principal) (segments lock.now.path.bytes) token.now) }
+{
+    let principal = match &lock.principal {
+        Some(name) => Some(name.clone()?),
+        None => None,
+    };
+    let tokens = vec![in alloc;
+        String::from_str(alloc, token)?,
+        String::from_str(alloc, OPERATOR)?,
+    ]?;
+    let command = Command::Unlock {
+        path: lock.path.clone()?,
+        token: String::from_str(alloc, token)?,
+    };
+    let request = Request {
+        principal,
+        tokens,
+        now,
+        command,
+    };
+    Ok(Note {
+        request,
+        drawn: None,
+    })
+}
+
+// Ends the lock.
+fn play(stores: &mut Guarded, note: &Note) -> Result<(), Unended>
+    requires { (s : Stream) → Draws (command_of note.now.request.command) note.now.drawn s }
+    ensures played { OnOk result (NotePlayed stores.old (note_of note.now) stores.new) }
+{
+    match apply_given(stores, &note.request, [0; 16]) {
+        Ok(_reply) => Ok(()),
+        Err(Refusal::OutOfMemory | Refusal::Fs(FsError::InsufficientStorage)) => {
+            Err(Unended::OutOfMemory)
+        }
+        Err(_refusal) => Err(Unended::NoLock),
+    }
+}

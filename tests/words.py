@@ -26,7 +26,6 @@ ONE_IDEA = {
     "choose": "by the value in an option, or without, the same in two crates that know nothing of each other",
     "every": "what each of a list gives, the same in two crates that know nothing of each other",
     "exactly": "Ok with the value that is there, and else the one error, of a header or of a line",
-    "is_address": "the address of a client: 1 to 64 bytes of 33 to 126, of what a frame tells and of what a field of a request tells; no file cites both",
     "is_blank": "a space or a tab, the same in two crates that know nothing of each other",
     "is_empty": "whether a list is empty, the same in two crates that know nothing of each other",
     "when": "a value where a test holds, the same in two crates that know nothing of each other",

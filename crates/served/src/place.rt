@@ -26,6 +26,8 @@ pub(crate) struct Place {
     // How long the file was when it was looked for last: it never gets shorter.
     length: Cell<u64>,
     is_lost: Cell<bool>,
+    // Why it could not be looked for.
+    failure: OnceCell<io::Error>,
 }
 
 impl Place {
@@ -35,6 +37,7 @@ impl Place {
             known: OnceCell::new(),
             length: Cell::new(0),
             is_lost: Cell::new(false),
+            failure: OnceCell::new(),
         }
     }
 
@@ -59,19 +62,32 @@ impl Place {
         self.is_lost.get()
     }
 
-    // Looks whether the name still leads to the file, which begins as it did, and has lost no byte. `Err` where it does not.
+    /// Why the file could not be looked for, where a call of the system failed for that (own).
+    pub(crate) fn into_failure(self) -> Option<io::Error> {
+        self.failure.into_inner()
+    }
+
+    // Looks whether the name still leads to the file, which begins as it did, and has lost no byte. `Err` where it does not, or that can't be told.
     fn look(&self, rt: &HostRuntime) -> io::Result<()> {
         let Some(known) = self.known.get() else {
             return Ok(());
         };
-        let length = length_of(rt, known)?;
-        match length {
-            Some(length) if length >= self.length.get() => {
+        match length_of(rt, known) {
+            Ok(Some(length)) if length >= self.length.get() => {
                 self.length.set(length);
                 Ok(())
             }
-            _ => Err(self.lose()),
+            Ok(_) => Err(self.lose()),
+            Err(error) if error.kind() == ErrorKind::OutOfMemory => Err(error),
+            Err(error) => Err(self.fail(error)),
         }
+    }
+
+    // Keeps why it could not be looked for.
+    fn fail(&self, error: io::Error) -> io::Error {
+        let kind = error.kind();
+        let _kept = self.failure.set(error);
+        io::Error::from(kind)
     }
 
     // Notes that the name leads elsewhere.
@@ -123,17 +139,22 @@ fn begins_with(alloc: Global, front: &[u8; HEADER], header: Header) -> bool {
     }
 }
 
-// How long the file is, where its name still leads to it and it begins as it did. `Err` where there is no memory to find out.
+// How long the file is, where its name still leads to it and it begins as it did. `Err` where a call of the system failed, or there is no memory to find out.
 fn length_of(rt: &HostRuntime, known: &Known) -> io::Result<Option<u64>> {
     let now = match fs::metadata(rt, known.path.as_str()) {
         Ok(now) => now,
-        Err(error) if error.kind() == ErrorKind::OutOfMemory => return Err(error),
-        Err(_) => return Ok(None),
+        Err(error) if error.kind() == ErrorKind::NotFound => return Ok(None),
+        Err(error) if error.kind() == ErrorKind::NotADirectory => return Ok(None),
+        Err(error) => return Err(error),
     };
-    let mut front = [0u8; HEADER];
-    let read = known.file.read_exact_at(&mut front, 0);
-    if read.is_err() || front != known.front || !is_one_file(&known.found, &now) {
+    if !is_one_file(&known.found, &now) {
         return Ok(None);
     }
-    Ok(Some(now.len()))
+    let mut front = [0u8; HEADER];
+    match known.file.read_exact_at(&mut front, 0) {
+        Ok(()) if front == known.front => Ok(Some(now.len())),
+        Ok(()) => Ok(None),
+        Err(error) if error.kind() == ErrorKind::UnexpectedEof => Ok(None),
+        Err(error) => Err(error),
+    }
 }

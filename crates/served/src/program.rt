@@ -152,7 +152,10 @@ fn serve_connections<R: Rng + Drop>(
     if place.is_lost() {
         return Err(Stopped::Lost);
     }
-    served
+    match place.into_failure() {
+        Some(error) => Err(Stopped::Unkept(JournalError::Failed(error))),
+        None => served,
+    }
 }
 
 // Serves with stores that a file keeps, or that are empty at first and in memory alone. It is told here of no streams, generator and clock in particular, and so

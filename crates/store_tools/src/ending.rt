@@ -1,5 +1,5 @@
 //! A lock is ended by whoever may write the file of the stores.
-ghost use Rattle.std.specs.Prelude.{◌≡◌, [], ◌∷◌, ◌++◌, ℕ, List, IfOk, OnErr, OnOk};
+ghost use Rattle.std.specs.Prelude.{◌≡◌, [], ◌∷◌, ◌++◌, ℕ, List, map, IfOk, OnErr, OnOk};
 ghost use Rattle.dav_path_core.specs.Segments.{segments};
 ghost use Rattle.journal_core.specs.Resting.{Carries};
 ghost use Rattle.rand_core.specs.Stream.{Stream};
@@ -61,8 +61,7 @@ pub fn end_lock(
     let Some(lock) = lock_with(&opened.stores, token) else {
         return Err(Unended::NoLock);
     };
-    let note = note_ending(alloc, lock, token, now)?;
-    let notes = vec![in alloc; note]?;
+    let notes = notes_ending(alloc, lock, token, now)?;
     let pieces = write(alloc, &notes)?;
     let Some(note) = notes.first() else {
         unreachable!();
@@ -82,9 +81,23 @@ fn lock_with<'a>(stores: &'a Guarded, token: &str) -> Option<&'a DavLock> {
     None
 }
 
-// The request that ends the lock, at this moment.
+// What is noted of the ending of a lock, at this moment.
+fn notes_ending(
+    alloc: Global,
+    lock: &DavLock,
+    token: &str,
+    now: Moment,
+) -> Result<Vec<Note>, AllocError>
+    ensures { IfOk result (λ notes. map note_of notes.items ≡ ending_note now.0 lock.now.principal (segments lock.now.path.bytes) token.now ∷ []) }
+{
+    let mut notes = Vec::new(alloc);
+    notes.push(note_ending(alloc, lock, token, now)?)?;
+    Ok(notes)
+}
+
+// The request that ends the lock.
 fn note_ending(alloc: Global, lock: &DavLock, token: &str, now: Moment) -> Result<Note, AllocError>
-    ensures { IfOk result (λ note. note_of note ≡ ending_note now.0 (lock.now.principal) (segments lock.now.path.bytes) token.now) }
+    ensures { IfOk result (λ note. note_of note ≡ ending_note now.0 lock.now.principal (segments lock.now.path.bytes) token.now) }
 {
     let principal = match &lock.principal {
         Some(name) => Some(name.clone()?),

@@ -24,6 +24,8 @@ PACKAGES = {
     "gio": "libglib2.0-bin",
     "dbus-run-session": "dbus-daemon",
     "setarch": "util-linux",
+    "mkfs.xfs": "xfsprogs",
+    "mkfs.btrfs": "btrfs-progs",
 }
 # Where programs stand that nobody starts by their name.
 FOLDERS = ["/usr/sbin", "/sbin", "/usr/libexec", "/usr/lib/gvfs"]

@@ -14,7 +14,7 @@ use dav_guarded_core::fs::Moment;
 use dav_handler_core::dav::{Dav, Settings};
 use dav_handler_core::serving::{Clock, Timed};
 use dav_kept_core::{Recorded, Tree, serve_store, serve_store_late};
-use dav_store_core::{Opened, Watch, load};
+use dav_store_core::{Opened, StoreError, Watch, load};
 use http_frames::gate::OneCall;
 use http_frames::serving::End;
 use journal_core::{Header, Journal, JournalError, Reader};
@@ -27,7 +27,7 @@ use std::alloc::{AllocError, Global};
 use std::io::{Read, Write};
 use store_files::{
     Anew, Compacted, Naming, Opening, Standing, Uncompacted, clear_draft, compact_opened,
-    end_making, header_of, is_due, length_of, make_new, standing_at,
+    end_making, header_of, is_due, length_of, make_new, standing_at, version_of,
 };
 use turn_fronts::ReadOnly;
 
@@ -68,7 +68,11 @@ pub(crate) fn serve_stored<R: Rng + Drop, C: Clock + Drop, I: Read, O: Write>(
 ) -> Result<End, Stopped> {
     let now = first_moment(rt, began)?;
     stand(rt, path, keeping.existing, now)?;
-    let found = find(rt, path, now, &streams.output, Wary)?;
+    let found = find(rt, path, now, &streams.output, Wary);
+    if let Err(Stopped::Refused(StoreError::Journal(JournalError::Unsupported))) = &found {
+        tell_version(rt, path);
+    }
+    let found = found?;
     tell_ahead(rt, found.opened.last, now);
     let made = compacted(rt, path, &found, keeping.compacting, &streams.output, Anew)?;
     serve_either(
@@ -380,6 +384,16 @@ fn clear_left<D: Disk, B>(
     match clear_draft(rt, path, journal, header) {
         Err(Uncompacted::InTheWay(draft)) => Err(Stopped::InTheWay(draft)),
         _ => Ok(()),
+    }
+}
+
+// Tells on standard error which version the file is of.
+fn tell_version(rt: &HostRuntime, path: &str) {
+    if let Some(version) = version_of(rt, path) {
+        let _told = writeln!(
+            rt.stderr(),
+            "{path} is a store of version {version}, and this program knows version 1"
+        );
     }
 }
 

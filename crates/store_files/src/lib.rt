@@ -18,5 +18,5 @@ pub use error::Uncompacted;
 pub use making::{Naming, Standing, end_making, is_one_file, make_new, standing_at};
 pub use measuring::{is_due, length_of};
 pub use opening::Opening;
-pub use placing::{clear, clear_draft, draft_of, make_like, sync_folder};
+pub use placing::{clear, clear_draft, draft_of, make_like, sync_folder, version_of};
 pub use progress::Progress;

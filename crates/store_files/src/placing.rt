@@ -8,7 +8,7 @@ use sqlite_disk::Disk;
 use std::alloc::AllocError;
 use std::fs::{self, File, OpenOptions};
 use std::io::{self, ErrorKind};
-use std::os::unix::fs::{MetadataExt, OpenOptionsExt, PermissionsExt, fchown};
+use std::os::unix::fs::{FileExt, MetadataExt, OpenOptionsExt, PermissionsExt, fchown};
 use std::path::PathBuf;
 
 /// Who may read and write the draft until it has the old one's owner and mode: who makes it.
@@ -16,6 +16,9 @@ const MODE: u32 = 0o600;
 
 /// How many bytes a draft may have of which no header can be read: those of a header, and of the gate behind it.
 const UNBEGUN: u64 = 64;
+
+/// At which byte the version stands in a header.
+const VERSION: u64 = 8;
 
 /// Removes the draft that an earlier compaction of the store at this path has left, where one is there
 /// (own). Whoever calls it has the file locked, so that no compaction is under way, and has read it whole
@@ -71,6 +74,14 @@ pub(crate) fn header_at(rt: &HostRuntime, path: &str) -> Result<Option<Header>, 
         Some(reader) => Ok(Some(reader.header())),
         None => Ok(None),
     }
+}
+
+/// The version of a file that begins as a store of any version does (own); none where it can't be read.
+pub fn version_of(rt: &HostRuntime, path: &str) -> Option<u32> {
+    let file = File::open(rt, path).ok()?;
+    let mut word = [0u8; 4];
+    file.read_exact_at(&mut word, VERSION).ok()?;
+    Some(u32::from_le_bytes(word))
 }
 
 /// Removes what an earlier call may have left at the name of a draft, which is this path: a store that began at this moment and is of this generation, or a file that has no more than

@@ -100,9 +100,9 @@ def ended_before(listen, path, gate):
 
 def wrong_before(listen):
     for frame in ("1 0", "1 3\\nabc", "grant 1 1", "more", "rests 1 1", "ready 1", "Ready"):
-        status, told = failed_start(listen, ["0"], shell(f"printf '{frame}\\n'; exec cat >/dev/null"))
+        status, told = failed_start(listen, ["0"], shell(f"printf '{frame}\\n'; cat >/dev/null"))
         yield f"a wrong frame before it is ready: {frame}", status == 5 and "no frame" in told and "MB of memory" not in told
-    with listening(listen, program=shell("echo ready; read line; echo ready; exec cat >/dev/null")) as it, it.connect() as client:
+    with listening(listen, program=shell("echo ready; read line; echo ready; cat >/dev/null")) as it, it.connect() as client:
         yield "one that is ready", it.urls[0].startswith("http://")
         client.sendall(b"x")
         yield "it is ready only once", it.wait() == 5 and "no frame" in it.told()

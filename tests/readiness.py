@@ -39,10 +39,10 @@ def notes(path):
 
 
 def joined(path, text=b""):
-    """A client of a unix socket."""
+    """A client of a unix socket, once one is heard there."""
     client = socket.socket(socket.AF_UNIX)
     client.settimeout(100)
-    client.connect(path)
+    until(lambda: client.connect_ex(path) == 0)
     client.sendall(text)
     return client
 
@@ -59,7 +59,6 @@ def before(listen, _):
         told.settimeout(100)
         words, surroundings = ["--listen", f"unix:{path}", "--head", "600"], {"READY_WHEN": gate, "NOTIFY_SOCKET": name}
         with listening(listen, words, environment=surroundings, waits=False) as it:
-            yield "it listens before the program is ready", until(lambda: os.path.exists(path))
             client, resting = joined(path, b"get 3\nput 300000\n" + bytes(300_000)), joined(path)
             quiet = not select.select([it.child.stdout, told, client], [], [], SILENCE)[0] and it.told() == ""
             yield "nothing is told before", quiet
@@ -82,13 +81,11 @@ def before(listen, _):
 def ended_before(listen, path, gate):
     for is_asked in (False, True):
         with listening(listen, ["--listen", f"unix:{path}", "--grace", "1"], environment={"READY_WHEN": gate}, waits=False) as it:
-            yield f"it is not ready, asked {is_asked}", until(lambda: os.path.exists(path))
             client = joined(path, b"get 3\n" if is_asked else b"")
             it.signal()
             yield f"a signal before it is ready ends it, asked {is_asked}", it.wait() == 0 and it.told() == ""
             client.close()
     with listening(listen, ["--listen", f"unix:{path}", "--grace", "600"], environment={"READY_WHEN": gate}, waits=False) as it:
-        until(lambda: os.path.exists(path))
         with joined(path, b"get 3\n") as client:
             yield "one is heard", until(lambda: is_heard(client))
             it.signal()

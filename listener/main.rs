@@ -137,12 +137,12 @@ fn serve(options: &Options, listeners: Vec<Listener>, users: Option<Users>) -> i
                 child = next;
                 server.begin(pipes)?;
             }
-            End::Program if pauses(&mut server, &mut runs, &mut child, options.grace) => {}
+            End::Program if pauses(&mut server, &mut runs, &mut child) => {}
             why => {
-                let runs = server.has_program();
+                let (is_running, patience) = (server.has_program(), server.patience());
                 // The program sees the end of its input.
                 drop(server);
-                return Ok(if runs { end_of(&mut child, why, options.grace) } else { STOPPED });
+                return Ok(if is_running { end_of(&mut child, why, patience) } else { STOPPED });
             }
         }
     }
@@ -155,12 +155,12 @@ fn run(runs: &Runs, memory: u64) -> (Child, Pipes) {
 }
 
 /// Whether a program that has ended is run again; then why and when is said, and it is paused until then.
-fn pauses(server: &mut Server, runs: &mut Runs, child: &mut Child, grace: u64) -> bool {
+fn pauses(server: &mut Server, runs: &mut Runs, child: &mut Child) -> bool {
     if server.is_stopping() {
         return false;
     }
     let served = server.served();
-    let status = wait(child, grace.max(1000));
+    let status = wait(child, server.patience());
     let (why, pause) = match runs.again(status, served) {
         Some(again) => again,
         None => return false,
@@ -198,9 +198,9 @@ fn wait(child: &mut Child, most: u64) -> Option<ExitStatus> {
     }
 }
 
-/// Waits for the program to end, as long as the grace lasts, and tells what it was.
-fn end_of(child: &mut Child, why: End, grace: u64) -> i32 {
-    let status = wait(child, if matches!(why, End::Killed) { 0 } else { grace.max(1000) });
+/// Waits for the program to end, and tells what it was.
+fn end_of(child: &mut Child, why: End, patience: u64) -> i32 {
+    let status = wait(child, if matches!(why, End::Killed) { 0 } else { patience });
     let told = status.map_or("ended".into(), |it| it.to_string());
     let code = status.and_then(|it| it.code());
     match why {

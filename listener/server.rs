@@ -138,6 +138,15 @@ impl Server {
         self.ready.map(|since| now - since)
     }
 
+    /// How many milliseconds the program has to end, once its input does. One that isn't ready has nothing to keep: what is left of the grace is enough.
+    pub fn patience(&self) -> u64 {
+        let now = self.began.elapsed().as_millis() as u64;
+        match (self.ready, self.stops) {
+            (None, Some(stops)) => stops.saturating_sub(now),
+            _ => self.grace.max(1000),
+        }
+    }
+
     pub fn has_program(&self) -> bool {
         self.from.is_some()
     }

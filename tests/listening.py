@@ -110,7 +110,10 @@ def listening(listen, words=(), **more):
 
 def failed_start(listen, words, behind=None, **more):
     """The status of a listener that ends by itself, and what it says."""
-    told = subprocess.run([listen, *words, *(behind or ["cat"])], stdin=subprocess.DEVNULL, capture_output=True, timeout=PATIENCE, check=False, **more)
+    try:
+        told = subprocess.run([listen, *words, *(behind or ["cat"])], stdin=subprocess.DEVNULL, capture_output=True, timeout=PATIENCE, check=False, **more)
+    except subprocess.TimeoutExpired:
+        return "never", ""
     return told.returncode, told.stderr.decode()
 
 

@@ -1,5 +1,6 @@
 """What the listener does before its program is ready, and once it has ended, for tests/listener."""
 import contextlib
+import fcntl
 import json
 import os
 import select
@@ -7,6 +8,7 @@ import signal
 import socket
 import sys
 import tempfile
+import termios
 import time
 
 from behind import pattern
@@ -37,12 +39,17 @@ def notes(path):
 
 
 def joined(path, text=b""):
-    """A client of a unix socket."""
+    """A client of a unix socket, once one is heard there."""
     client = socket.socket(socket.AF_UNIX)
     client.settimeout(100)
-    client.connect(path)
+    until(lambda: client.connect_ex(path) == 0)
     client.sendall(text)
     return client
+
+
+def is_heard(client):
+    """Whether what a client of a unix socket has sent was read."""
+    return int.from_bytes(fcntl.ioctl(client, termios.TIOCOUTQ, bytes(4)), sys.byteorder) == 0
 
 
 def before(listen, _):
@@ -52,7 +59,6 @@ def before(listen, _):
         told.settimeout(100)
         words, surroundings = ["--listen", f"unix:{path}", "--head", "600"], {"READY_WHEN": gate, "NOTIFY_SOCKET": name}
         with listening(listen, words, environment=surroundings, waits=False) as it:
-            yield "it listens before the program is ready", until(lambda: os.path.exists(path))
             client, resting = joined(path, b"get 3\nput 300000\n" + bytes(300_000)), joined(path)
             quiet = not select.select([it.child.stdout, told, client], [], [], SILENCE)[0] and it.told() == ""
             yield "nothing is told before", quiet
@@ -75,18 +81,25 @@ def before(listen, _):
 def ended_before(listen, path, gate):
     for is_asked in (False, True):
         with listening(listen, ["--listen", f"unix:{path}", "--grace", "1"], environment={"READY_WHEN": gate}, waits=False) as it:
-            yield f"it is not ready, asked {is_asked}", until(lambda: os.path.exists(path))
             client = joined(path, b"get 3\n" if is_asked else b"")
             it.signal()
             yield f"a signal before it is ready ends it, asked {is_asked}", it.wait() == 0 and it.told() == ""
             client.close()
+    with listening(listen, ["--listen", f"unix:{path}", "--grace", "600"], environment={"READY_WHEN": gate}, waits=False) as it:
+        with joined(path, b"get 3\n") as client:
+            yield "one is heard", until(lambda: is_heard(client))
+            it.signal()
+            yield "nobody comes any more", until(lambda: not os.path.exists(path))
+            with open(gate, "w", encoding="ascii"):
+                yield "once it is ready what was asked is answered", whole(client) == pattern(3)
+        yield "and nobody is told that it serves", it.wait() == 0 and it.rest == b"" and it.told() == "left 0\n"
 
 
 def wrong_before(listen):
     for frame in ("1 0", "1 3\\nabc", "grant 1 1", "more", "rests 1 1", "ready 1", "Ready"):
-        status, told = failed_start(listen, ["0"], shell(f"printf '{frame}\\nready\\n'; exec cat >/dev/null"))
+        status, told = failed_start(listen, ["0"], shell(f"printf '{frame}\\n'; cat >/dev/null"))
         yield f"a wrong frame before it is ready: {frame}", status == 5 and "no frame" in told and "MB of memory" not in told
-    with listening(listen, program=shell("echo ready; read line; echo ready; exec cat >/dev/null")) as it, it.connect() as client:
+    with listening(listen, program=shell("echo ready; read line; echo ready; cat >/dev/null")) as it, it.connect() as client:
         yield "one that is ready", it.urls[0].startswith("http://")
         client.sendall(b"x")
         yield "it is ready only once", it.wait() == 5 and "no frame" in it.told()

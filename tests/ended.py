@@ -31,14 +31,16 @@ def rows(stores, davserve):
     )
     status, told, _ = stores.ask("locks")
     lines = [line.split(" ") for line in told]
-    wanted = [["shared", "shallow", str(MOMENT + HOUR), "ann", "/a"], ["shared", "shallow", "-", "ben", "/a"], ["exclusive", "deep", "-", "ann", "/d"]]
-    yield f"each lock has a line: {told}", locked == [b"200"] * 3 and status == 0 and sorted(line[1:] for line in lines) == sorted(wanted)
+    wanted = [["shared", "shallow", "ann", "/a"], ["shared", "shallow", "ben", "/a"], ["exclusive", "deep", "ann", "/d"]]
+    is_right = locked == [b"200"] * 3 and status == 0 and [line[1:3] + line[4:] for line in lines] == wanted
+    # Each request has a moment of its own, a nanosecond behind the one before.
+    yield f"each lock has a line: {told}", is_right and MOMENT + HOUR < int(lines[0][3]) < MOMENT + HOUR + 10 and lines[1][3] == lines[2][3] == "-"
     token = next(line[0] for line in lines if line[-1] == "/d").replace("%3A", ":")
     put = request(b"PUT /d/b", b"2", BEN)
     yield "it keeps others out", serve(LATER, put) == [b"423"]
     before = stores.bytes()
     yield "another token ends none", stores.ask("unlock", "urn:uuid:none") == (1, ["there is no such lock"], "") and stores.bytes() == before
-    yield "it is ended", stores.ask("unlock", token) == (0, [f"unlocked: {token}"], "") and len(stores.ask("locks")[1]) == 2
+    yield "it is ended", stores.ask("unlock", token) == (0, [f"unlocked: {token}"], "") and [line.split(" ")[4] for line in stores.ask("locks")[1]] == ["ben"]
     last = stores.ask("log")[1][-1].split(" ")
     yield f"by a record that names its caller: {last}", last[1:] == ["ann", f"{token.replace(':', '%3A')},{OPERATOR}", "unlock", "/d", token.replace(":", "%3A")]
     yield "nobody is kept out then", serve(LATER + HOUR, put) == [b"201"]

@@ -16,7 +16,7 @@ def rows(stores, davserve):
     def serve(moment, *requests):
         given = b"clock %d\n" % moment + frame(1, b"".join(requests)) + frame(1)
         ran = subprocess.run([davserve, "--store", stores.path, "--user-header", "x-user", "--clock", "frames"], input=given, capture_output=True, timeout=100, check=False)
-        return re.findall(rb"(?m)^HTTP/1\.1 (\d+)", b"".join(pieces(ran.stdout)[1]))
+        return re.findall(rb"(?<!<D:status>)HTTP/1\.1 (\d+)", b"".join(pieces(ran.stdout)[1]))
 
     yield "no file has locks", stores.ask("locks")[1] == ["new"] and stores.ask("unlock", "x")[0] == 1
     os.remove(stores.path)

@@ -1,4 +1,6 @@
 //! What stands behind the gate that is shut, or behind the place where a file is broken.
+ghost use Rattle.std.specs.Prelude.{◌≡◌, drop};
+
 use crate::placed::{Placed, read_word};
 use journal_copies::{find_round, read_round, records_in, whole_round};
 use std::fs::File;
@@ -34,8 +36,13 @@ pub fn round_behind(
 }
 
 /// The bytes of the records of a round that was read.
-pub fn records_of(round: &[u8]) -> &[u8] {
-    round.get(16..).unwrap_or(&[])
+pub fn records_of(round: &[u8]) -> &[u8]
+    ensures { result.now ≡ drop 16 round.now }
+{
+    if round.len() < 16 {
+        return &[];
+    }
+    &round[16..]
 }
 
 /// The bytes of a file from one byte on (own).

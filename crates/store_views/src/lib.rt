@@ -10,6 +10,7 @@ mod later;
 mod listing;
 mod logging;
 mod looking;
+mod naming;
 mod paths;
 mod placed;
 mod playing;

@@ -11,5 +11,5 @@ invariant-reading g l = record {
   seen : g.D.Disk.seen (disk_behind l.journal) ≡ g.D.Disk.seen (disk_behind l.initial.journal);
   crash : (c : List ℕ) → g.D.Disk.may_leave (disk_behind l.journal) c → g.D.Disk.may_leave (disk_behind l.initial.journal) c;
   clean : IsTrue (g.D.Disk.is_clean (disk_behind l.journal)) → IsTrue (g.D.Disk.is_clean (disk_behind l.initial.journal));
-  usable : IsTrue (g.D.Disk.is_usable (disk_behind l.journal))
+  usable : IsTrue (g.D.Disk.is_usable (disk_behind l.journal));
 }

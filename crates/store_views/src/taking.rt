@@ -584,13 +584,20 @@ fn look_there<D: Disk>(
         return Ok(There::None);
     };
     match next_round(alloc, journal, reader, &(), place as usize)? {
-        Some(text) if text.as_slice() == records_of(round) => Ok(There::Same),
+        Some(text) if is_of(text.as_slice(), round) => Ok(There::Same),
         Some(_) => Ok(There::Other),
         None => {
             *copy = None;
             Ok(There::None)
         }
     }
+}
+
+// Whether these are the bytes of the records of a round.
+fn is_of(text: &[u8], round: &[u8]) -> bool
+    ensures { result ≡ true → text.now ≡ drop 16 round.now }
+{
+    text == records_of(round)
 }
 
 impl Taken<'_> {

@@ -230,6 +230,7 @@ def streams(stores, record_of, whole):
         run.kill()
         yield "and that is told", b"no round ends at byte" in run.stderr.read()
     yield from taken(stores, record_of, copy, content, gates, stream)
+    yield from replaced(stores, record_of)
     stores.write(content[: gates[3] + 30] + b"?" + content[gates[3] + 31 :])
     run = subprocess.run([stores.davstore, stores.path, "follow"], capture_output=True, timeout=60, check=False)
     yield "a store that is damaged is followed up to there", run.returncode == 1 and run.stdout.startswith(content[:56] + number(56) + content[56 : gates[3]]) and b"damaged at byte" in run.stdout[-40:]
@@ -237,12 +238,33 @@ def streams(stores, record_of, whole):
         os.remove(copy)
 
 
+def replaced(stores, record_of):
+    """A round that comes while the stream waits, just before another store takes the path, is followed, too."""
+    live, other = stores.path, f"{stores.path}.other"
+    stores.write(b"")
+    stores.append(["00" * 2500] * 40)
+    stores.write(stores.bytes()[: gates_of(stores.bytes())[-1] + 8])
+    old = stores.bytes()
+    with subprocess.Popen([stores.davstore, live, "follow"], stdout=subprocess.PIPE) as run:
+        # The pipe is full, and the rest of the stream waits for it, behind the last round.
+        time.sleep(1)
+        stores.append(folders(record_of, 1))
+        size = gates_of(stores.bytes())[-1]
+        wanted = old[:56] + number(56) + stores.bytes()[56:size]
+        shutil.copyfile(live, other)
+        os.replace(other, live)
+        got = run.stdout.read(len(wanted) + 8)
+        run.kill()
+    yield "a round that comes just before another store", got == wanted + b"shutgate"
+
+
 def taken(stores, record_of, copy, content, gates, stream):
     """What a copy takes of a stream, and what it refuses."""
 
     def take(given, before=None):
-        if os.path.exists(copy):
-            os.remove(copy)
+        for path in (copy, f"{copy}.before-0", f"{copy}.before-1"):
+            if os.path.exists(path):
+                os.remove(path)
         if before is not None:
             with open(copy, "wb") as file:
                 file.write(before)
@@ -262,7 +284,7 @@ def taken(stores, record_of, copy, content, gates, stream):
     run = subprocess.run([stores.davstore, os.path.basename(copy), "take"], input=stream, cwd=os.path.dirname(copy), capture_output=True, timeout=60, check=False)
     with open(copy, "rb") as file:
         yield "by a name without a folder", run.returncode == 0 and run.stdout.decode().splitlines() == told and file.read() == after
-    yield "nothing is taken twice", take(stream, after)[::2] == (0, after)
+    yield "nothing is taken twice", take(stream, after) == (0, [f"taken: 0 rounds, 0 records, up to byte {size} (7 rounds it had already)"], after)
     chance = random.Random(5)
     right = 0
     for _ in range(20):
@@ -279,7 +301,7 @@ def taken(stores, record_of, copy, content, gates, stream):
     part = shut(content[: gates[4]])
     from_there = content[:56] + number(gates[3]) + content[gates[3] : size]
     yield "a copy goes on", take(from_there, part)[::2] == (0, shut(content[:size]))
-    yield "a longer copy goes on", take(from_there, shut(content[: gates[5]]))[::2] == (0, shut(content[:size]))
+    yield "a longer copy goes on", take(from_there, shut(content[: gates[5]])) == (0, [f"taken: 2 rounds, 2 records, up to byte {size} (2 rounds it had already)"], shut(content[:size]))
     gap = shut(content[: gates[2]])
     status, told, after = take(from_there, gap)
     yield "a gap", (status, told[-1], after) == (1, "a gap: no round of the copy ends where what comes begins", gap)
@@ -306,10 +328,31 @@ def taken(stores, record_of, copy, content, gates, stream):
         file.write(stream[:56])
     yield "a draft that was left is removed, and another file stays", take(stream)[::2] == (0, shut(content[:size])) and not os.path.exists(draft) and os.path.getsize(f"{copy}.new") == 56
     os.remove(f"{copy}.new")
-    yield from others(stores, record_of, take, content, gates, stream)
+    yield from together(stores, copy, stream, shut(content[:size]))
+    yield from others(stores, record_of, take, copy, content, gates, stream)
 
 
-def others(stores, record_of, take, content, gates, stream):
+def together(stores, copy, stream, whole):
+    """Of several that take at once where no copy is, one makes it, and the others are refused."""
+    right = 0
+    for _ in range(10):
+        os.remove(copy)
+        runs = [subprocess.Popen([stores.davstore, copy, "take"], stdin=subprocess.PIPE, stdout=subprocess.PIPE, stderr=subprocess.DEVNULL) for _ in range(4)]
+        for run in runs:
+            run.stdin.write(stream)
+            run.stdin.flush()
+        until(lambda: sum(run.poll() is not None for run in runs) == len(runs) - 1, 10)
+        ended = [run for run in runs if run.poll() is not None]
+        good = len(ended) == len(runs) - 1 and all((run.returncode, run.stdout.read()) == (1, b"the journal is in use\n") for run in ended)
+        told = [run.communicate(timeout=60)[0] for run in runs if run not in ended]
+        with open(copy, "rb") as file:
+            right += good and told[0].startswith(b"taken: 7 rounds, ") and file.read() == whole and not [name for name in os.listdir(os.path.dirname(copy)) if ".draft-" in name]
+        for run in ended:
+            run.communicate(timeout=60)
+    yield f"of 10 times four that took at once {right} times one did", right == 10
+
+
+def others(stores, record_of, take, copy, content, gates, stream):
     """Stores that part at a round, and other ones."""
     shut = lambda front: front + b"shutgate"
     stores.write(shut(content[: gates[4]]))
@@ -329,13 +372,60 @@ def others(stores, record_of, take, content, gates, stream):
     later = stores.bytes()
     size = gates_of(later)[-1]
     anew = later[:56] + number(56) + later[56:size]
+    kept, old = f"{copy}.before-0", shut(content[: gates[-1]])
+    before = lambda: open(kept, "rb").read() if os.path.exists(kept) else None
     status, told, after = take(stream + b"shutgate" + anew)
     yield "a copy is made anew where the store was compacted", (status, after) == (0, shut(later[:size]))
-    yield "so it is where the stream begins with it", take(anew, shut(content[: gates[4]]))[::2] == (0, shut(later[:size]))
+    yield "what it replaces stays", before() == old and told == [f"kept: {kept}", f"taken: 8 rounds, 8 records, up to byte {size}"]
+    part = shut(content[: gates[4]])
+    yield "so it is where the stream begins with it", take(anew, part)[::2] == (0, shut(later[:size])) and before() == part
+    yield from names(stores, take, copy, kept, anew, stream, part, shut(later[:size]))
     yield "not where it is an earlier generation", take(stream, later)[::2] == (1, later)
     part = shut(content[: gates[-1]])
     yield "and not before its first round is whole", take(stream + b"shutgate" + anew[:-1])[1:] == (["taken: 7 rounds, 7 records, up to byte %d" % gates[-1], "the stream has no whole round at byte 56"], part)
     stores.write(content)
+
+
+def names(stores, take, copy, kept, anew, stream, part, wanted):
+    """The names of a copy and of what it replaces."""
+    with open(kept, "wb") as file:
+        file.write(b"another file")
+    shutil.copyfile(kept, f"{kept}.text")
+    run = lambda given: subprocess.run([stores.davstore, copy, "take"], input=given, capture_output=True, timeout=60, check=False)
+    with open(copy, "wb") as file:
+        file.write(part)
+    ended = run(anew)
+    with open(copy, "rb") as file, open(kept, "rb") as other:
+        stays = file.read() == part and other.read() == b"another file"
+    yield "nothing is replaced where its new name is taken", (ended.returncode, ended.stdout) == (3, b"") and ended.stderr.startswith(kept.encode() + b": ") and stays
+    os.remove(f"{kept}.text")
+    yield "no draft is left then", not [name for name in os.listdir(os.path.dirname(copy)) if ".draft-" in name]
+    for given, is_later in ((stream, False), (anew, True)):
+        take(b"", part)
+        os.link(copy, kept)
+        ended = run(given)
+        with open(copy, "rb") as file:
+            after = file.read()
+        good = ended.returncode == 0 and os.stat(copy).st_nlink == 1 and os.path.exists(kept) == is_later
+        if is_later:
+            with open(kept, "rb") as file:
+                good = good and after == wanted and file.read() == part
+        yield f"a second name that a crash has left, {'behind which it is replaced' if is_later else 'of a copy that goes on'}", good
+    take(b"", part)
+    os.link(copy, f"{copy}.mine")
+    ended = run(stream)
+    with open(copy, "rb") as file:
+        yield "another second name stays, and is refused", ended.returncode == 3 and file.read() == part and os.path.exists(f"{copy}.mine")
+    os.remove(f"{copy}.mine")
+    with subprocess.Popen([stores.davstore, copy, "take"], stdin=subprocess.PIPE, stdout=subprocess.PIPE) as held:
+        held.stdin.write(stream)
+        held.stdin.flush()
+        yield "it goes on, and is locked", until(lambda: used(copy) == gates_of(wanted)[-1] or used(copy) > gates_of(part)[-1])
+        os.link(copy, kept)
+        ended = run(anew)
+        yield "a second name of one that is in use stays", (ended.returncode, ended.stdout) == (1, b"the journal is in use\n") and os.stat(copy).st_nlink == 2
+        os.remove(kept)
+        held.communicate(timeout=60)
 
 
 def standby(stores, davserve):
@@ -383,5 +473,7 @@ def standby(stores, davserve):
     pipe.stop()
     served = subprocess.run([davserve, "--store", copy], input=frame(1, request(b"GET /1")) + frame(1), capture_output=True, timeout=100, check=False)
     yield "it can be served", b"HTTP/1.1 200" in served.stdout
-    yield "nothing is left beside it", sorted(os.listdir(where)) == ["copy", "store"]
+    yield "nothing but what it has replaced is left beside it", sorted(os.listdir(where)) == ["copy", "copy.before-0", "store"]
+    yield "which is a store", tell(stores.davstore, f"{copy}.before-0", "check")[0] == 0
     os.remove(copy)
+    os.remove(f"{copy}.before-0")

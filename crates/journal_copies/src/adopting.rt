@@ -1,6 +1,6 @@
 //! Where a file is broken, and how the gate there is shut.
 ghost use Rattle.std.specs.Prelude.{◌≡◌, ℕ, List, Ok, None, IsTrue, IfOk, IfSome, OnErr, OnOk};
-ghost use Rattle.sqlite_disk.specs.Disk.{MoreFaults, Only};
+ghost use Rattle.sqlite_disk.specs.Disk.{MoreFaults, Only, Torn};
 ghost use Rattle.journal_core.specs.Clocked.{EachLeaves};
 ghost use Rattle.journal_core.specs.Format.{Laid, Lies, StandsFor};
 ghost use Rattle.journal_core.specs.JournalReading.{IsReading, header_of};
@@ -103,6 +103,8 @@ pub fn shut<D: Disk, B>(file: &mut Looking<D, B>, note: &B, broken: &Break) -> i
     // The file has the rounds before that gate, and that is on the disk.
     ensures adopts { OnOk result ((rounds : List Laid) → IsBroken broken.now.header (D.Disk.seen (disk_in file.old)) rounds → broken.now.place ≡ gate_behind broken.now.header rounds
         → Lies broken.now.header (D.Disk.seen (disk_in file.new)) rounds × Only (D.Disk.seen (disk_in file.new)) (D.Disk.may_leave (disk_in file.new))) }
+    // All other bytes stay, but for those behind the end of the file.
+    ensures others { OnOk result (Torn broken.now.place 8 (D.Disk.seen (disk_in file.old)) (D.Disk.seen (disk_in file.new))) }
     ensures cause { OnErr result (MoreFaults (D.Disk.faults (disk_in file.old)) (D.Disk.faults (disk_in file.new))) }
     // What a crash leaves at any moment of the call is as it was but for these eight bytes, and has these rounds, or is broken there as it was,
     ensures any_moment { (rounds : List Laid) → IsBroken broken.now.header (D.Disk.seen (disk_in file.old)) rounds → broken.now.place ≡ gate_behind broken.now.header rounds
@@ -112,6 +114,7 @@ pub fn shut<D: Disk, B>(file: &mut Looking<D, B>, note: &B, broken: &Break) -> i
     ensures crash { (rounds : List Laid) → IsBroken broken.now.header (D.Disk.seen (disk_in file.old)) rounds → broken.now.place ≡ gate_behind broken.now.header rounds
         → Only (D.Disk.seen (disk_in file.old)) (D.Disk.may_leave (disk_in file.old))
         → (c : List ℕ) → D.Disk.may_leave (disk_in file.new) c → IsAdopting broken.now.header rounds (D.Disk.seen (disk_in file.old)) c }
+    ensures clean { D.Disk.is_clean (disk_in file.new) ≡ D.Disk.is_clean (disk_in file.old) }
 {
     file.disk.write_at(note, broken.place, b"shutgate")?;
     file.disk.sync(note)

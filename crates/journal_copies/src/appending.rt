@@ -48,6 +48,7 @@ pub fn append_text<D: Disk, B>(
     ensures cause { IfErr result (λ e. ((e ≡ OutOfMemory) × (journal.new ≡ journal.old))
         ⊎ HasDiskCause e (D.Disk.faults (disk_behind journal.old)) (D.Disk.faults (disk_behind journal.new)) (D.Disk.tally_of (disk_behind journal.old)).refused (D.Disk.tally_of (disk_behind journal.new)).refused) }
     ensures header { header_in journal.new ≡ header_in journal.old }
+    ensures clean { D.Disk.is_clean (disk_behind journal.new) ≡ D.Disk.is_clean (disk_behind journal.old) }
     ensures usable { OnOk result (IsTrue (D.Disk.is_usable (disk_behind journal.new))) }
 {
     let Some(round) = round_of(alloc, text)? else {

@@ -1,6 +1,7 @@
 //! Adopting: the gate is shut of a round that a copy has not whole.
-ghost use Rattle.std.specs.Prelude.{IsTrue};
-ghost use Rattle.journal_copies.specs.DiskLooks.{disk_in};
+ghost use Rattle.std.specs.Prelude.{◌≡◌, Ok, true, false, IsTrue};
+ghost use Rattle.journal_copies.specs.DiskLooks.{LooksAt, disk_in};
+ghost use Rattle.store_views.specs.Adopted.{IsAdopted};
 
 use crate::behind::Tail;
 use crate::failures::Failure;
@@ -44,7 +45,7 @@ pub fn end_of<O: Write + Drop>(
         return Ok(None);
     }
     let mut tail = Tail::of(rt, path, header.key, place)?;
-    if tail.next_round().is_some() {
+    if tail.next_round()?.is_some() {
         writeln!(output, "not adopted: whole rounds stand behind it")?;
         return Ok(None);
     }
@@ -55,7 +56,7 @@ pub fn end_of<O: Write + Drop>(
     Ok(Some(End {
         place,
         records: broken.records,
-        behind: tail.len() as u64,
+        behind: tail.len(),
     }))
 }
 
@@ -122,9 +123,13 @@ fn shut_in(rt: &HostRuntime, path: &str, end: &End) -> Result<bool, Failure> {
     shut_there(rt.alloc(), &mut file, end)
 }
 
-// Shuts the gate, where the file is still broken there.
+// Shuts the gate, where the file is still broken there; false where it isn't, and then nothing is changed.
 fn shut_there<D: Disk>(alloc: Global, file: &mut Looking<D, ()>, end: &End) -> Result<bool, Failure>
     requires usable { IsTrue (D.Disk.is_usable (disk_in file.old)) }
+    // The file was broken there behind some rounds; it has these now, on its disk, and all but the eight bytes of the gate stays.
+    ensures adopts { result ≡ Ok true → LooksAt D.Disk.seen D.Disk.is_clean file.old (D.Disk.seen (disk_in file.old)) 0 → IsTrue (D.Disk.is_clean (disk_in file.new))
+        → IsAdopted D.Disk.seen D.Disk.may_leave end.now.place file.old file.new }
+    ensures stays { result ≡ Ok false → D.Disk.seen (disk_in file.new) ≡ D.Disk.seen (disk_in file.old) }
 {
     let Some(broken) = find_break(alloc, file, &())? else {
         return Ok(false);

@@ -148,7 +148,7 @@ impl Followed {
         Ok(gate.checked_add(round))
     }
 
-    // Writes each round that comes, until another file stands at the path.
+    // Writes each round that comes, until another file stands at the path. What came into this one before is written then, too.
     fn pass<O: Write + Drop>(
         &mut self,
         rt: &HostRuntime,
@@ -156,20 +156,30 @@ impl Followed {
         output: &mut BufWriter<O>,
     ) -> Result<(), Failure> {
         for _ in 0..u64::MAX {
-            match self.next(rt.alloc())? {
+            self.write_rounds(rt.alloc(), output)?;
+            if is_another(rt, path, &self.found)? {
+                return self.write_rounds(rt.alloc(), output);
+            }
+            sleep(rt, Duration::from_millis(PAUSE));
+        }
+        Ok(())
+    }
+
+    // Writes the rounds up to the gate that is shut.
+    fn write_rounds<O: Write + Drop>(
+        &mut self,
+        alloc: Global,
+        output: &mut BufWriter<O>,
+    ) -> Result<(), Failure> {
+        for _ in 0..u64::MAX {
+            match self.next(alloc)? {
                 AtGate::Round(round) => {
                     output.write_all(b"opengate")?;
                     output.write_all(&round)?;
                     let size = (round.len() as u64).saturating_add(8);
                     self.place = self.place.saturating_add(size);
                 }
-                AtGate::Shut => {
-                    output.flush()?;
-                    if is_another(rt, path, &self.found)? {
-                        return Ok(());
-                    }
-                    sleep(rt, Duration::from_millis(PAUSE));
-                }
+                AtGate::Shut => return Ok(output.flush()?),
             }
         }
         Ok(())

@@ -18,14 +18,14 @@ pub struct Later {
 }
 
 /// What the whole rounds in these bytes name (own).
-pub fn later_in(alloc: Global, tail: &mut Tail) -> Result<Later, AllocError> {
+pub fn later_in(alloc: Global, tail: &mut Tail) -> io::Result<Later> {
     let mut later = Later {
         rounds: 0,
         records: 0,
         paths: Vec::new(alloc),
     };
     for _ in 0..u64::MAX {
-        let Some(text) = tail.next_round() else {
+        let Some(text) = tail.next_round()? else {
             break;
         };
         later.rounds = later.rounds.saturating_add(1);

@@ -11,6 +11,7 @@ mod listing;
 mod lock_lines;
 mod logging;
 mod looking;
+mod naming;
 mod paths;
 mod placed;
 mod playing;

@@ -1,20 +1,23 @@
 //! Taking: what `follow` writes is added to a copy.
-ghost use Rattle.std.specs.Prelude.{IsTrue, IfOk, OnOk};
+ghost use Rattle.std.specs.Prelude.{◌≡◌, ◌≢◌, ◌++◌, [], drop, ℕ, List, Ok, None, true, IsTrue, IfOk, OnOk};
 ghost use Rattle.sqlite_std_file.specs.File.{file_is_usable};
-ghost use Rattle.journal_core.specs.Resting.{disk_behind};
+ghost use Rattle.journal_core.specs.Format.{records_text};
+ghost use Rattle.journal_core.specs.Resting.{IsSettled, disk_behind};
+ghost use Rattle.journal_file.specs.JournalFiles.{file_is_clean, file_may_leave, file_seen};
+ghost use Rattle.store_views.specs.TakenRounds.{AddsRound, HasInFront, HasRoundAlone};
 
 use crate::behind::records_of;
 use crate::failures::Failure;
+use crate::naming::{before_of, give_name, give_up, header_at, open_copy, real_path, reserve};
 use crate::placed::read_word;
 use journal_copies::{append_text, next_round, read_round, records_in};
 use journal_core::{Header, Journal, JournalError, Reader, Stream};
 use journal_file::open;
 use sqlite_disk::Disk;
 use sqlite_std_file::{FileFrom, Start, Wary};
-use std::alloc::Global;
-use std::fs::{self, File};
+use std::alloc::{AllocError, Global};
 use std::io::{self, BufReader, BufWriter, ErrorKind, Read, Write};
-use store_files::{Anew, Progress, Uncompacted, clear, draft_of, make_like, sync_folder};
+use store_files::{Anew, Progress, Uncompacted, clear, draft_of, make_like};
 
 // How many bytes a header has, and so where the first gate is.
 const HEADER: u64 = 56;
@@ -48,8 +51,12 @@ struct Taken<'a> {
     // Where the copy is.
     path: &'a str,
     progress: Progress<'a>,
+    // How many rounds and records were appended.
     rounds: u64,
     records: u64,
+    // How many rounds the copy had already.
+    had: u64,
+    // Up to which byte it has what came.
     place: u64,
 }
 
@@ -65,6 +72,7 @@ pub fn take<O: Write + Drop>(
         progress: Progress::new(rt),
         rounds: 0,
         records: 0,
+        had: 0,
         place: HEADER,
     };
     let ended = take_all(&mut taken)?;
@@ -110,20 +118,32 @@ fn read_front<I: Read>(alloc: Global, input: &mut I) -> Result<Option<Front>, Fa
 
 // Begins with the first file of the stream.
 fn begin<I: Read>(front: Front, input: &mut I, taken: &mut Taken<'_>) -> Result<End, Failure> {
-    let Some(header) = header_at(taken.rt, taken.path)? else {
-        return take_anew(front.header.key, front, input, taken);
+    let rt = taken.rt;
+    let real = real_path(rt, taken.path)?;
+    let Some(header) = header_at(rt, real.as_str())? else {
+        return take_anew(real.as_str(), None, front, input, taken);
     };
-    let (mut journal, found) = open(taken.rt, taken.path, header, &(), Wary)?;
-    match found {
-        Some(reader) => begin_behind(&mut journal, &mut Some(reader), header, front, input, taken),
-        None => refused(taken.rt, "the copy has changed"),
-    }
+    let (mut journal, found) = open_copy(rt, real.as_str(), header, Wary)?;
+    let Some(reader) = found else {
+        return refused(rt, "the copy has changed");
+    };
+    let copy = &mut Some(reader);
+    begin_behind(
+        &mut journal,
+        copy,
+        real.as_str(),
+        header,
+        front,
+        input,
+        taken,
+    )
 }
 
 // Begins behind what the copy has, which has this header.
 fn begin_behind<D: Disk, I: Read>(
     journal: &mut Journal<D, ()>,
     copy: &mut Option<Reader>,
+    real: &str,
     header: Header,
     front: Front,
     input: &mut I,
@@ -132,10 +152,10 @@ fn begin_behind<D: Disk, I: Read>(
     requires usable { IsTrue (D.Disk.is_usable (disk_behind journal.old)) }
 {
     if header != front.header {
-        return begin_later(journal, copy, header, front, input, taken);
+        return begin_later(journal, copy, real, header, front, input, taken);
     }
     match go_on(journal, copy, front, input, taken)? {
-        End::Anew(later) => begin_later(journal, copy, header, later, input, taken),
+        End::Anew(later) => begin_later(journal, copy, real, header, later, input, taken),
         end => Ok(end),
     }
 }
@@ -144,6 +164,7 @@ fn begin_behind<D: Disk, I: Read>(
 fn begin_later<D: Disk, I: Read>(
     journal: &mut Journal<D, ()>,
     copy: &mut Option<Reader>,
+    real: &str,
     header: Header,
     front: Front,
     input: &mut I,
@@ -155,7 +176,7 @@ fn begin_later<D: Disk, I: Read>(
         return refused(taken.rt, OTHER);
     }
     passes_to(taken.rt.alloc(), journal, copy, u64::MAX)?;
-    take_anew(header.key, front, input, taken)
+    take_anew(real, Some(header), front, input, taken)
 }
 
 // Whether a header is that of a later generation of the same store.
@@ -163,50 +184,36 @@ fn is_later(header: &Header, other: &Header) -> bool {
     other.began == header.began && other.generation > header.generation
 }
 
-// The header of the store at this path; none where nothing stands there, or it has none yet.
-fn header_at(rt: &HostRuntime, path: &str) -> Result<Option<Header>, Failure> {
-    let file = match File::open(rt, path) {
-        Ok(file) => file,
-        Err(error) if error.kind() == ErrorKind::NotFound => return Ok(None),
-        Err(error) => return Err(Failure::from(error)),
-    };
-    let mut source = Stream::new(file);
-    match Reader::begin(rt.alloc(), &mut source, &())? {
-        Some(reader) => Ok(Some(reader.header())),
-        None => Ok(None),
-    }
-}
-
-// Puts a new file at the path, in place of one with this key, and adds to it what comes; and so on, where the store is compacted again.
+// Puts a new file at the path, in place of the one that has this header, or where there is none, and adds to it what comes; and so on, where the store is compacted again.
 fn take_anew<I: Read>(
-    key: u64,
+    real: &str,
+    had: Option<Header>,
     front: Front,
     input: &mut I,
     taken: &mut Taken<'_>,
 ) -> Result<End, Failure> {
-    let real = real_path(taken.rt, taken.path)?;
     let mut held = None;
-    take_files(real.as_str(), &mut held, key, front, input, taken)
+    take_files(real, &mut held, had, front, input, taken)
 }
 
 // Takes one file after another; the last one is held.
 fn take_files<I: Read>(
     real: &str,
     held: &mut Option<Journal<FileFrom<Anew>, ()>>,
-    key: u64,
+    had: Option<Header>,
     front: Front,
     input: &mut I,
     taken: &mut Taken<'_>,
 ) -> Result<End, Failure> {
-    let (mut key, mut front) = (key, front);
+    let (mut had, mut front) = (had, front);
     for _ in 0..u64::MAX {
         let round = match first_round(taken.rt, front, input)? {
             First::Round(round) => round,
             First::Ended(end) => return Ok(end),
         };
-        match take_file(real, held, key, front, &round, input, taken)? {
+        match take_file(real, held, had, front, &round, input, taken)? {
             End::Anew(later) if is_later(&front.header, &later.header) => {
-                key = front.header.key;
+                had = Some(front.header);
                 front = later;
             }
             End::Anew(_) => return refused(taken.rt, OTHER),
@@ -216,18 +223,17 @@ fn take_files<I: Read>(
     Ok(End::Stream)
 }
 
-// Takes one file, of which this is the first round, in place of one with this key. The one that is held is locked until the new one has the name, which is held then.
+// Takes one file, of which this is the first round, in place of the one that has this header. The one that is held is locked until the new one has the name, which is held then.
 fn take_file<I: Read>(
     real: &str,
     held: &mut Option<Journal<FileFrom<Anew>, ()>>,
-    key: u64,
+    had: Option<Header>,
     front: Front,
     round: &[u8],
     input: &mut I,
     taken: &mut Taken<'_>,
 ) -> Result<End, Failure> {
-    let draft = draft_of(taken.rt, real, key, front.header.generation)?;
-    let mut journal = write_beside(taken.rt, real, draft.as_str(), front.header, round, Anew)?;
+    let mut journal = put_file(taken.rt, real, had, front.header, round, Anew)?;
     *held = None;
     taken.place = HEADER;
     taken.add(round);
@@ -264,69 +270,147 @@ fn first_round<I: Read>(rt: &HostRuntime, front: Front, input: &mut I) -> Result
     }
 }
 
-// Where a link at the path leads, where something stands there.
-fn real_path(rt: &HostRuntime, path: &str) -> Result<String, Failure> {
-    match fs::canonicalize(rt, path) {
-        Ok(real) => Ok(real.into_string()),
-        Err(error) if error.kind() == ErrorKind::NotFound => {
-            Ok(String::from_str(rt.alloc(), path)?)
-        }
-        Err(error) => Err(Failure::from(error)),
-    }
-}
-
-// Writes the first round into a draft beside the path, and gives it the name, which is on the disk then.
-fn write_beside<S: Start>(
+// Puts a file with its first round at the path, in place of the one that has this header, or where there is none.
+fn put_file<S: Start>(
     rt: &HostRuntime,
     real: &str,
-    draft: &str,
+    had: Option<Header>,
     header: Header,
     round: &[u8],
     start: S,
 ) -> Result<Journal<FileFrom<S>, ()>, Failure>
     ensures usable { IfOk result (λ journal. IsTrue (file_is_usable S.Start (disk_behind journal))) }
+    ensures taken { IfOk result (λ journal. HasRoundAlone (file_seen S.Start) (file_may_leave S.Start) (file_is_clean S.Start) journal round.now) }
 {
-    make_beside(rt, real, draft, header)?;
-    let (mut journal, _) = open(rt, draft, header, &(), start)?;
-    append_beside(rt, draft, real, &mut journal, round)?;
+    match had {
+        Some(old) => replace(rt, real, old, header, round, start),
+        None => put_first(rt, real, header, round, start),
+    }
+}
+
+// Puts the file at the path where no store stands.
+fn put_first<S: Start>(
+    rt: &HostRuntime,
+    real: &str,
+    header: Header,
+    round: &[u8],
+    start: S,
+) -> Result<Journal<FileFrom<S>, ()>, Failure>
+    ensures usable { IfOk result (λ journal. IsTrue (file_is_usable S.Start (disk_behind journal))) }
+    ensures taken { IfOk result (λ journal. HasRoundAlone (file_seen S.Start) (file_may_leave S.Start) (file_is_clean S.Start) journal round.now) }
+{
+    let draft = draft_of(rt, real, header.key, header.generation)?;
+    let reserved = reserve(rt, real)?;
+    match write_beside(rt, real, draft.as_str(), None, header, round, start) {
+        Ok(journal) => Ok(journal),
+        Err(error) => {
+            let _given_up = give_up(rt, real, &reserved);
+            Err(error)
+        }
+    }
+}
+
+// Puts the file at the path in place of the one that has this header, which stays under another name; that is told.
+fn replace<S: Start>(
+    rt: &HostRuntime,
+    real: &str,
+    old: Header,
+    header: Header,
+    round: &[u8],
+    start: S,
+) -> Result<Journal<FileFrom<S>, ()>, Failure>
+    ensures usable { IfOk result (λ journal. IsTrue (file_is_usable S.Start (disk_behind journal))) }
+    ensures taken { IfOk result (λ journal. HasRoundAlone (file_seen S.Start) (file_may_leave S.Start) (file_is_clean S.Start) journal round.now) }
+{
+    let draft = draft_of(rt, real, old.key, header.generation)?;
+    let before = before_of(rt, real, old.generation)?;
+    let kept = Some(before.as_str());
+    let journal = write_beside(rt, real, draft.as_str(), kept, header, round, start)?;
+    writeln!(rt.stdout(), "kept: {before}")?;
     Ok(journal)
 }
 
-// Makes the draft, without a byte, where something stands at the path.
+// Writes the first round into a draft beside the path, and gives it the name, which is on the disk then. What had the name stays under this one, where there is one.
+fn write_beside<S: Start>(
+    rt: &HostRuntime,
+    real: &str,
+    draft: &str,
+    before: Option<&str>,
+    header: Header,
+    round: &[u8],
+    start: S,
+) -> Result<Journal<FileFrom<S>, ()>, Failure>
+    ensures usable { IfOk result (λ journal. IsTrue (file_is_usable S.Start (disk_behind journal))) }
+    ensures taken { IfOk result (λ journal. HasRoundAlone (file_seen S.Start) (file_may_leave S.Start) (file_is_clean S.Start) journal round.now) }
+{
+    make_beside(rt, real, draft, header)?;
+    let (mut journal, found) = open(rt, draft, header, &(), start)?;
+    if found.is_some() {
+        return Err(in_the_way(rt, draft)?);
+    }
+    append_beside(rt, real, draft, before, &mut journal, round)?;
+    Ok(journal)
+}
+
+// Makes the draft, without a byte.
 fn make_beside(rt: &HostRuntime, real: &str, draft: &str, header: Header) -> Result<(), Failure> {
     clear(rt, draft, header.began, header.generation).map_err(not_clear)?;
-    match make_like(rt, real, draft) {
-        Ok(()) => Ok(()),
-        Err(error) if error.kind() == ErrorKind::NotFound => Ok(()),
-        Err(error) => Err(Failure::from(error)),
-    }
+    Ok(make_like(rt, real, draft)?)
+}
+
+// What is told of a path at which something stands in the way.
+fn in_the_way(rt: &HostRuntime, path: &str) -> Result<Failure, AllocError> {
+    let error = io::Error::from(ErrorKind::AlreadyExists);
+    Ok(Failure::At(String::from_str(rt.alloc(), path)?, error))
 }
 
 // Appends the first round, and then gives the new file its name.
 fn append_beside<D: Disk>(
     rt: &HostRuntime,
-    new: &str,
     real: &str,
+    draft: &str,
+    before: Option<&str>,
     journal: &mut Journal<D, ()>,
     round: &[u8],
 ) -> Result<(), Failure>
     requires usable { IsTrue (D.Disk.is_usable (disk_behind journal.old)) }
+    requires anew { IsTrue (D.Disk.is_clean (disk_behind journal.old)) → IsSettled D.Disk.seen D.Disk.may_leave D.Disk.is_clean journal.old [] }
+    ensures taken { OnOk result (HasRoundAlone D.Disk.seen D.Disk.may_leave D.Disk.is_clean journal.new round.now) }
     ensures usable { OnOk result (IsTrue (D.Disk.is_usable (disk_behind journal.new))) }
 {
     append_round(rt.alloc(), journal, round)?;
-    fs::rename(rt, new, real)?;
-    Ok(sync_folder(rt, real)?)
+    put_in_place(rt, real, draft, before, journal, round)
 }
 
+// Gives the draft the name of the copy, once its first round is on the disk.
+fn put_in_place<D: Disk>(
+    rt: &HostRuntime,
+    real: &str,
+    draft: &str,
+    before: Option<&str>,
+    _journal: &Journal<D, ()>,
+    _round: &[u8],
+) -> Result<(), Failure>
+    requires { HasRoundAlone D.Disk.seen D.Disk.may_leave D.Disk.is_clean _journal.now _round.now }
+{
+    give_name(rt, draft, real, before)
+}
+
+// Appends a round to a journal that is open, so that its records stand behind those that it has, on its disk.
 fn append_round<D: Disk>(
     alloc: Global,
     journal: &mut Journal<D, ()>,
     round: &[u8],
 ) -> Result<(), Failure>
     requires usable { IsTrue (D.Disk.is_usable (disk_behind journal.old)) }
+    ensures taken { OnOk result ((records new : List (List ℕ)) → IsSettled D.Disk.seen D.Disk.may_leave D.Disk.is_clean journal.old records → drop 16 round.now ≡ records_text new
+        → IsSettled D.Disk.seen D.Disk.may_leave D.Disk.is_clean journal.new (records ++ new)) }
+    ensures clean { D.Disk.is_clean (disk_behind journal.new) ≡ D.Disk.is_clean (disk_behind journal.old) }
     ensures usable { OnOk result (IsTrue (D.Disk.is_usable (disk_behind journal.new))) }
 {
-    append_text(alloc, journal, &(), records_of(round))?;
+    if !append_text(alloc, journal, &(), records_of(round))? {
+        return Err(Failure::from(io::Error::from(ErrorKind::InvalidData)));
+    }
     Ok(())
 }
 
@@ -453,23 +537,25 @@ fn pass_to<D: Disk>(
     Ok(false)
 }
 
-// Appends a round, where the copy does not have it; false where it has another one at its gate.
+// Appends a round where the copy has none at its gate, as it has not once it was read to its end. What it had there; but for another round, it has this one then, on its disk.
 fn add_round<D: Disk>(
     alloc: Global,
     journal: &mut Journal<D, ()>,
     copy: &mut Option<Reader>,
     place: u64,
     round: &[u8],
-) -> Result<bool, Failure>
+) -> Result<There, Failure>
     requires usable { IsTrue (D.Disk.is_usable (disk_behind journal.old)) }
+    ensures taken { IfOk result (λ there. there ≢ There.Other
+        → AddsRound D.Disk.seen D.Disk.may_leave D.Disk.is_clean journal.old copy.old journal.new copy.new round.now) }
     ensures usable { OnOk result (IsTrue (D.Disk.is_usable (disk_behind journal.new))) }
 {
     match look_there(alloc, journal, copy, place, round)? {
-        There::Same => Ok(true),
-        There::Other => Ok(false),
+        There::Same => Ok(There::Same),
+        There::Other => Ok(There::Other),
         There::None => {
             append_round(alloc, journal, round)?;
-            Ok(true)
+            Ok(There::None)
         }
     }
 }
@@ -482,7 +568,7 @@ enum There {
     None,
 }
 
-// Whether the copy has this round at this gate. Where it has none it was read to its end, and is open.
+// Whether the copy has this round at this gate. Where it has none it was read to its end, and is open; from then on it has no reader.
 fn look_there<D: Disk>(
     alloc: Global,
     journal: &mut Journal<D, ()>,
@@ -491,20 +577,33 @@ fn look_there<D: Disk>(
     round: &[u8],
 ) -> Result<There, Failure>
     requires usable { IsTrue (D.Disk.is_usable (disk_behind journal.old)) }
+    ensures same { result ≡ Ok There.Same → AddsRound D.Disk.seen D.Disk.may_leave D.Disk.is_clean journal.old copy.old journal.new copy.new round.now }
+    ensures none { result ≡ Ok There.None → (copy.new ≡ None) × ((records : List (List ℕ)) → HasInFront D.Disk.seen D.Disk.may_leave D.Disk.is_clean journal.old copy.old records
+        → IsTrue (D.Disk.is_clean (disk_behind journal.new)) → IsSettled D.Disk.seen D.Disk.may_leave D.Disk.is_clean journal.new records) }
     ensures usable { IsTrue (D.Disk.is_usable (disk_behind journal.new)) }
 {
     let Some(reader) = copy else {
         return Ok(There::None);
     };
     match next_round(alloc, journal, reader, &(), place as usize)? {
-        Some(text) if text.as_slice() == records_of(round) => Ok(There::Same),
+        Some(text) if is_of(text.as_slice(), round) => Ok(There::Same),
         Some(_) => Ok(There::Other),
-        None => Ok(There::None),
+        None => {
+            *copy = None;
+            Ok(There::None)
+        }
     }
 }
 
+// Whether these are the bytes of the records of a round.
+fn is_of(text: &[u8], round: &[u8]) -> bool
+    ensures { result ≡ true → text.now ≡ drop 16 round.now }
+{
+    text == records_of(round)
+}
+
 impl Taken<'_> {
-    // Adds a round where the copy does not have it, and counts it; false where the copy has another one.
+    // Adds a round where the copy does not have it, and counts it; false where the copy has another one. Else the copy has it then, on its disk.
     fn take_round<D: Disk>(
         &mut self,
         journal: &mut Journal<D, ()>,
@@ -512,13 +611,20 @@ impl Taken<'_> {
         round: &[u8],
     ) -> Result<bool, Failure>
         requires usable { IsTrue (D.Disk.is_usable (disk_behind journal.old)) }
+        ensures taken { result ≡ Ok true → AddsRound D.Disk.seen D.Disk.may_leave D.Disk.is_clean journal.old copy.old journal.new copy.new round.now }
         ensures usable { OnOk result (IsTrue (D.Disk.is_usable (disk_behind journal.new))) }
     {
-        if !add_round(self.rt.alloc(), journal, copy, self.place, round)? {
-            return Ok(false);
+        match add_round(self.rt.alloc(), journal, copy, self.place, round)? {
+            There::Other => Ok(false),
+            There::Same => {
+                self.pass(round);
+                Ok(true)
+            }
+            There::None => {
+                self.add(round);
+                Ok(true)
+            }
         }
-        self.add(round);
-        Ok(true)
     }
 
     // In front of what comes behind that which was taken of a file.
@@ -535,11 +641,8 @@ impl Taken<'_> {
         ended: &End,
         output: &mut BufWriter<O>,
     ) -> io::Result<bool> {
-        let (rounds, records, place) = (self.rounds, self.records, self.place);
-        writeln!(
-            output,
-            "taken: {rounds} rounds, {records} records, up to byte {place}"
-        )?;
+        let told = self.told()?;
+        writeln!(output, "taken: {told}")?;
         let End::Refused(why) = ended else {
             return Ok(true);
         };
@@ -547,10 +650,34 @@ impl Taken<'_> {
         Ok(false)
     }
 
-    // Counts a round, and tells how far it is, now and then.
+    // How much was taken, and of what the copy had already.
+    fn told(&self) -> Result<String, AllocError> {
+        let (rounds, records, place) = (self.rounds, self.records, self.place);
+        let mut told = format!(in self.rt.alloc();
+            "{rounds} rounds, {records} records, up to byte {place}"
+        )?;
+        if self.had > 0 {
+            let had = format!(in self.rt.alloc(); " ({} rounds it had already)", self.had)?;
+            told.push_str(had.as_str())?;
+        }
+        Ok(told)
+    }
+
+    // Counts a round that was appended.
     fn add(&mut self, round: &[u8]) {
         self.rounds = self.rounds.saturating_add(1);
         self.records = self.records.saturating_add(records_in(records_of(round)));
+        self.go_behind(round);
+    }
+
+    // Counts a round that the copy had already.
+    fn pass(&mut self, round: &[u8]) {
+        self.had = self.had.saturating_add(1);
+        self.go_behind(round);
+    }
+
+    // Goes behind a round, and tells how far it is, now and then.
+    fn go_behind(&mut self, round: &[u8]) {
         self.place = self
             .place
             .saturating_add(round.len() as u64)
@@ -558,11 +685,8 @@ impl Taken<'_> {
         if !self.progress.is_due() {
             return;
         }
-        if let Ok(text) = format!(in self.rt.alloc();
-            "{} rounds, {} records, up to byte {}",
-            self.rounds, self.records, self.place
-        ) {
-            self.progress.tell(text.as_str());
+        if let Ok(told) = self.told() {
+            self.progress.tell(told.as_str());
         }
     }
 }

@@ -5,7 +5,7 @@
 //                  "a HEX" what was written to standard output
 //   FAIL=N:ERRNO   of the writes, syncs and changes of the length the N-th fails so, counted from 1
 //   ALSO=1         these are noted, and counted, too: "p INODE RESULT" a read at an offset; "o INODE RESULT" a file or folder that is opened, "r INODE RESULT" a name that a file is given in
-//                  place of its own, "u INODE RESULT" a name that is removed, each with what had the name before
+//                  place of its own, "l INODE RESULT" one that it is given beside it, "u INODE RESULT" a name that is removed, each with what had the name before
 //   PART=BYTES     the write that fails has written so many of its bytes
 //   PIECE=BYTES    each write moves at most so many bytes
 //   LATE=MICROS    the first lock is asked for so much later
@@ -175,6 +175,11 @@ static int note_name(char kind, unsigned long inode, int done) {
 int rename(const char *old, const char *new) {
     unsigned long inode = named(old);
     return note_name('r', inode, also && fails() ? -1 : (int)syscall(SYS_rename, old, new));
+}
+
+int link(const char *old, const char *new) {
+    unsigned long inode = named(old);
+    return note_name('l', inode, also && fails() ? -1 : (int)syscall(SYS_link, old, new));
 }
 
 int unlink(const char *path) {

@@ -1,5 +1,4 @@
 """What the listener does before its program is ready, and once it has ended, for tests/listener."""
-import contextlib
 import fcntl
 import json
 import os
@@ -12,7 +11,7 @@ import termios
 import time
 
 from behind import pattern
-from listening import HERE, comes, failed_start, in_time, listening, receive, until, whole
+from listening import HERE, comes, failed_start, in_time, is_closed, listening, receive, until, whole
 from telling import change, hang_up
 
 # For so many seconds nothing has to come.
@@ -209,6 +208,4 @@ def stop_within(listen, limit):
                     return None
                 rows = [(f"a signal within a pause of {limit} s ends it", it.wait() == 0)]
                 rows.append(("at once, without another run", [word for _, word, *_ in notes(path)].count("begins") == RUNS[limit]))
-                with contextlib.suppress(ConnectionResetError):
-                    rows.append(("and who waits is let go", whole(client) == b""))
-                return rows
+                return [*rows, ("and who waits is let go", until(lambda: is_closed(client)))]

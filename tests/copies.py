@@ -102,14 +102,15 @@ def adopted(stores, record_of, whole):
         yield f"not adopted by {answer!r}", (status, told[-1]) == (1, "not adopted") and "Type yes: " in why and stores.bytes() == cut
     status, told, _ = asked(stores, b"yes\n")
     yield "adopted by yes", status == 0 and told[-1].startswith("adopted: ") and stores.ask("check")[0] == 0
-    at = gates[3] + 30
+    at, snapshot = gates[3] + 30, compacted(stores, content)
     refused = (
         ("a whole store", content, "nothing is to be adopted"),
         ("an empty file", b"", "nothing is to be adopted"),
         ("a text", b"no store at all, but a text", "not a journal"),
         ("a part of a header", content[:20], "damaged at byte 0"),
         ("a part of the first round", content[: gates[1] - 5], "not adopted: no record stands before it"),
-        ("a part of a compacted store", compacted(stores, content)[:100], "not adopted: no record stands before it"),
+        ("a part of a compacted store", snapshot[:100], "not adopted: no record stands before it"),
+        ("a compacted store but for a byte of its snapshot", snapshot[: gates_of(snapshot)[-1] - 1], "not adopted: no record stands before it"),
         ("a wrong byte before whole rounds", content[:at] + bytes([content[at] ^ 1]) + content[at + 1 :], "not adopted: whole rounds stand behind it"),
     )
     for name, wrong, wanted in refused:

@@ -4,25 +4,25 @@ ghost use Rattle.sqlite_std_file.specs.File.{file_is_usable};
 ghost use Rattle.journal_core.specs.Resting.{disk_behind};
 
 use crate::failures::Failure;
+use dav_store_core::StoreError;
 use journal_core::{Header, Journal, JournalError, Reader, Stream};
 use journal_file::open;
-use os::{RangeLock, try_lock_range};
 use sqlite_std_file::{FileFrom, Start};
 use std::alloc::AllocError;
-use std::fs::{self, File, Metadata, OpenOptions};
+use std::fs::{self, File, Metadata, OpenOptions, TryLockError};
 use std::io::{self, ErrorKind};
-use std::os::fd::AsRawFd;
 use std::os::unix::fs::{MetadataExt, OpenOptionsExt};
+use std::thread::sleep;
+use std::time::Duration;
 use store_files::sync_folder;
 
 // Who may read and write a file that is made: its owner alone.
 const MODE: u32 = 0o600;
 
-// The bytes of a file that whoever has it open has locked, as SQLite does.
-const LOCK: u64 = 1 << 30;
+// So often a turn is asked for that another `take` has for a moment, and so many milliseconds lie between.
+const TRIES: u32 = 100;
 
-// How many these are.
-const LOCKED: u64 = 512;
+const PAUSE: u64 = 50;
 
 /// Where a link at the path leads, where something stands there.
 pub(crate) fn real_path(rt: &HostRuntime, path: &str) -> Result<String, Failure> {
@@ -58,7 +58,7 @@ pub(crate) fn before_of(
     format!(in rt.alloc(); "{path}.before-{generation}")
 }
 
-/// Opens the copy at this path, which has this header. `Busy` where another program has it open, or has put another file in its place.
+/// Opens the copy at this path, which has this header, and at which it is the caller's turn. `Busy` where another program has it open, or has put another file in its place.
 pub(crate) fn open_copy<S: Start>(
     rt: &HostRuntime,
     path: &str,
@@ -76,13 +76,12 @@ pub(crate) fn open_copy<S: Start>(
     Ok(opened)
 }
 
-// Takes away the second name of the file at this path, which a crash has left between the two steps of `give_name`. No file with two names is opened.
+// Takes away the second name of the file at this path, which a crash has left between the two steps of `give_name`. No file with two names is opened. Whoever calls this has its turn there.
 fn mend(rt: &HostRuntime, path: &str, generation: u64) -> Result<(), Failure> {
     if fs::symlink_metadata(rt, path)?.nlink() < 2 {
         return Ok(());
     }
     let before = before_of(rt, path, generation)?;
-    let _locked = lock(rt, path)?;
     remove_second(rt, path, before.as_str())
 }
 
@@ -109,11 +108,13 @@ fn has_name(rt: &HostRuntime, path: &str, file: &Metadata) -> io::Result<bool> {
     }
 }
 
-// Opens the file at this path, and locks it as a program does that opens it as a store. `Busy` where another one has, or has put another file in its place.
-fn lock(rt: &HostRuntime, path: &str) -> Result<File, Failure> {
-    let file = OpenOptions::new().read(true).write(true).open(rt, path)?;
-    if try_lock_range(file.as_raw_fd(), RangeLock::Exclusive, LOCK, LOCKED) != 0 {
-        return Err(Failure::from(JournalError::Busy));
+/// The turn at the file at this path: while it is held no other `take` gives that another name. `Busy` where another one has it, or another program has put another file in its place.
+pub(crate) fn take_turn(rt: &HostRuntime, path: &str) -> Result<File, Failure> {
+    let file = File::open(rt, path)?;
+    match file.try_lock() {
+        Ok(()) => {}
+        Err(TryLockError::WouldBlock) => return Err(Failure::from(JournalError::Busy)),
+        Err(TryLockError::Error(error)) => return Err(Failure::from(error)),
     }
     if !has_name(rt, path, &file.metadata()?)? {
         return Err(Failure::from(JournalError::Busy));
@@ -121,7 +122,20 @@ fn lock(rt: &HostRuntime, path: &str) -> Result<File, Failure> {
     Ok(file)
 }
 
-/// The path of a copy where no store stands yet: a new file, which is locked.
+/// The same of a file that whoever calls this has open and locked: another `take` that begins lets go of it at once, so it is waited for.
+pub(crate) fn turn_at_own(rt: &HostRuntime, path: &str) -> Result<File, Failure> {
+    for _ in 0..TRIES {
+        match take_turn(rt, path) {
+            Err(Failure::Refused(StoreError::Journal(JournalError::Busy))) => {
+                sleep(rt, Duration::from_millis(PAUSE));
+            }
+            turn => return turn,
+        }
+    }
+    Err(Failure::from(JournalError::Busy))
+}
+
+/// The path of a copy where no store stands yet: a new file, at which it is whose turn it is that has this.
 #[derive(Drop)]
 pub(crate) struct Reserved {
     file: File,
@@ -129,10 +143,10 @@ pub(crate) struct Reserved {
     is_made: bool,
 }
 
-/// Locks the new file at the path, which is made where nothing stands there. `Busy` where another program has it open, or has put a store there.
+/// Takes the turn at the new file at the path, which is made where nothing stands there. `Busy` where another one has it, or has put a store there.
 pub(crate) fn reserve(rt: &HostRuntime, path: &str) -> Result<Reserved, Failure> {
     let is_made = make(rt, path)?;
-    let file = lock(rt, path)?;
+    let file = take_turn(rt, path)?;
     if header_at(rt, path)?.is_some() {
         return Err(Failure::from(JournalError::Busy));
     }

@@ -8,7 +8,9 @@ ghost use Rattle.store_views.specs.TakenRounds.{AddsRound, HasInFront, HasRoundA
 
 use crate::behind::records_of;
 use crate::failures::Failure;
-use crate::naming::{before_of, give_name, give_up, header_at, open_copy, real_path, reserve};
+use crate::naming::{
+    before_of, give_name, give_up, header_at, open_copy, real_path, reserve, take_turn, turn_at_own,
+};
 use crate::placed::read_word;
 use journal_copies::{append_text, next_round, read_round, records_in};
 use journal_core::{Header, Journal, JournalError, Reader, Stream};
@@ -16,6 +18,7 @@ use journal_file::open;
 use sqlite_disk::Disk;
 use sqlite_std_file::{FileFrom, Start, Wary};
 use std::alloc::{AllocError, Global};
+use std::fs::File;
 use std::io::{self, BufReader, BufWriter, ErrorKind, Read, Write};
 use store_files::{Anew, Progress, Uncompacted, clear, draft_of, make_like};
 
@@ -51,6 +54,8 @@ struct Taken<'a> {
     // Where the copy is.
     path: &'a str,
     progress: Progress<'a>,
+    // The turn at the file that has the name of the copy.
+    turn: Option<File>,
     // How many rounds and records were appended.
     rounds: u64,
     records: u64,
@@ -70,6 +75,7 @@ pub fn take<O: Write + Drop>(
         rt,
         path,
         progress: Progress::new(rt),
+        turn: None,
         rounds: 0,
         records: 0,
         had: 0,
@@ -123,6 +129,7 @@ fn begin<I: Read>(front: Front, input: &mut I, taken: &mut Taken<'_>) -> Result<
     let Some(header) = header_at(rt, real.as_str())? else {
         return take_anew(real.as_str(), None, front, input, taken);
     };
+    taken.turn = Some(take_turn(rt, real.as_str())?);
     let (mut journal, found) = open_copy(rt, real.as_str(), header, Wary)?;
     let Some(reader) = found else {
         return refused(rt, "the copy has changed");
@@ -235,6 +242,7 @@ fn take_file<I: Read>(
 ) -> Result<End, Failure> {
     let mut journal = put_file(taken.rt, real, had, front.header, round, Anew)?;
     *held = None;
+    taken.turn = Some(turn_at_own(taken.rt, real)?);
     taken.place = HEADER;
     taken.add(round);
     let ended = go_on(&mut journal, &mut None, taken.behind(front), input, taken);

@@ -1,4 +1,5 @@
 """What davstore imports from folders of the system, and exports into them, beside what stands there: rows of tests/davstore."""
+import errno
 import os
 import random
 import re
@@ -12,6 +13,7 @@ import time
 import urllib.parse
 import xml.etree.ElementTree
 
+from disks import calls_of, tracer
 from frames import LOCK_INFO, frame, pieces, request
 
 TIME = "{urn:dav-resource-core:import}modified"
@@ -255,6 +257,33 @@ def failing(stores):
     yield "what was imported before it", asked.ask("list")[1][1:] in ([], [line for line in asked.ask("list")[1] if line.endswith(" /a")])
 
 
+def inode_of(path):
+    return os.stat(path).st_ino
+
+
+def synced(stores):
+    """What is exported is on the disk at the end, and a sync that fails ends the export."""
+    asked = Asked(stores, "synced")
+    make(asked.at("in"), {b"a": b"1", b"d": None, b"d/e": None, b"d/e/f": b"2", b"empty": None, b"g": b""})
+    asked.ask("import", asked.at("in"))
+    trace, library = asked.at("trace"), tracer(asked.top)
+
+    def export(**environment):
+        shutil.rmtree(asked.out, ignore_errors=True)
+        return asked.ask("export", asked.out, env={**os.environ, "LD_PRELOAD": library, **environment})
+
+    yield "it is exported under a tracer", export(TRACE=trace) == (0, [], "") and read(asked.out) == read(asked.at("in"))
+    syncs = [call.inode for call in calls_of(trace) if call.kind == b"s" and call.done == 0]
+    last = {inode: place for place, inode in enumerate(syncs)}
+    members = [os.path.join(asked.out, os.fsdecode(path)) for path in read(asked.out)]
+    yield "each file and folder is synced", all(inode_of(path) in last for path in [asked.top, asked.out, *members])
+    yield "a folder is synced behind what is made in it", all(last.get(inode_of(path), -1) < last.get(inode_of(os.path.dirname(path)), -1) for path in members)
+    for number in range(1, len(syncs) + 1):
+        status, lines, why = export(FAIL=f"{number}:{errno.EIO}")
+        yield f"sync {number} fails", (status, lines) == (3, []) and why.startswith(asked.out)
+    yield "no sync more", export(FAIL=f"{len(syncs) + 1}:{errno.EIO}") == (0, [], "")
+
+
 def killed(stores, rounds):
     """An import is killed at random moments, and goes on."""
     chance, names, asked = random.Random(7), [b"f%03d" % number for number in range(300)], Asked(stores, "killed")
@@ -287,5 +316,5 @@ def killed(stores, rounds):
 
 def rows(stores, davserve, records):
     """Each with its name, and whether it is right."""
-    for part in (trees(stores), unexported(stores, records), going_on(stores, davserve), failing(stores), killed(stores, 4)):
+    for part in (trees(stores), unexported(stores, records), going_on(stores, davserve), failing(stores), synced(stores), killed(stores, 4)):
         yield from part

@@ -1,3 +1,4 @@
 pub mod Adding
 pub mod ImportedEntries
 pub mod Importing
+pub mod KeptImports

@@ -2,6 +2,7 @@
 #![tactic(auto)]
 
 mod adding;
+mod additions;
 mod choices;
 mod entries;
 mod exporting;

@@ -15,7 +15,7 @@ use Rattle.store_tools.specs.declared.additions.Additions.{Additions}
 use Rattle.store_tools.specs.declared.additions.Counts.{Counts}
 use Rattle.store_tools.specs.Adding.{IsAdded, StaysLive}
 use Rattle.store_tools.specs.ImportedEntries.{Source, notes_for}
-use Rattle.store_tools.specs.KeptImports.{GoesOn, HasAdded, IsImported, IsImportedInto, IsImportingInto, KeepsOn, KeepsWhole, StandsButLocks, count_of}
+use Rattle.store_tools.specs.KeptImports.{AddsOn, HasAdded, IsImported, IsImportedInto, IsImportingInto, ImportsOn, EndsImport, StandsButLocks, count_of}
 use Rattle.store_tools.proofs.ImportLemmas.{imports_appended, imports_begin, imports_left, imports_more, imports_stand}
 
 -- there are as many records as requests
@@ -30,7 +30,7 @@ as_many (ns ∷ requests) [] are = absurd are
 -- an entry more, and one more in the count at most
 pub adds_one : (a a' : Additions) (clock : ℕ) (source : Source)
     → IsAdded a.opened.stores a.opened.last.0 clock source a'.opened.stores a'.opened.last.0 (λ bytes. (records : List (List ℕ)) → Carries a.round records → Carries a'.round (records ++ bytes ∷ []))
-    → a'.files + a'.folders ≤ a.files + a.folders + 1 → GoesOn a a'
+    → a'.files + a'.folders ≤ a.files + a.folders + 1 → AddsOn a a'
 unfolding imports_more
 adds_one a a' clock source is one = λ base from made h.
     let more = imports_more base a.opened.stores a'.opened.stores from a.opened.last.0 a'.opened.last.0 made (Carries a.round) (Carries a'.round) h.importing clock source is in
@@ -41,7 +41,7 @@ adds_one a a' clock source is one = λ base from made h.
 
 -- an entry that is left out
 pub adds_none : (a a' : Additions) → StaysLive a.opened.stores a.opened.last.0 a'.opened.stores a'.opened.last.0 → ((records : List (List ℕ)) → Carries a.round records → Carries a'.round records)
-    → a'.files + a'.folders ≤ a.files + a.folders → GoesOn a a'
+    → a'.files + a'.folders ≤ a.files + a.folders → AddsOn a a'
 unfolding imports_left
 adds_none a a' live round none = λ base from made h. record {
   importing = imports_left base a.opened.stores a'.opened.stores from a.opened.last.0 a'.opened.last.0 made (Carries a.round) (Carries a'.round) h.importing live round;
@@ -49,18 +49,18 @@ adds_none a a' live round none = λ base from made h. record {
 }
 
 -- the same additions
-pub goes_same : (a a' : Additions) → a' ≡ a → GoesOn a a'
+pub goes_same : (a a' : Additions) → a' ≡ a → AddsOn a a'
 goes_same a a' same = λ base from made h. subst (λ (b : Additions). HasAdded base from made b) (sym same) h
 
 -- ---- in a journal
 
 module _ {D B : Type 0} (seen : D → List ℕ) (may_leave : D → List ℕ → Type 0) (is_clean : D → Bool) where
   -- nothing is appended
-  pub keeps_on : (j : Journal D B) (a a' : Additions) → GoesOn a a' → KeepsOn seen may_leave is_clean j a j a'
+  pub keeps_on : (j : Journal D B) (a a' : Additions) → AddsOn a a' → ImportsOn seen may_leave is_clean j a j a'
   keeps_on j a a' on = λ records base from i. record { made = i.made; settled = i.settled; added = on base from i.made i.added }
 
   -- one behind another
-  pub keeps_then : (j k l : Journal D B) (a b c : Additions) → KeepsOn seen may_leave is_clean j a k b → KeepsOn seen may_leave is_clean k b l c → KeepsOn seen may_leave is_clean j a l c
+  pub keeps_then : (j k l : Journal D B) (a b c : Additions) → ImportsOn seen may_leave is_clean j a k b → ImportsOn seen may_leave is_clean k b l c → ImportsOn seen may_leave is_clean j a l c
   keeps_then j k l a b c one two = λ records base from i. two records base from (one records base from i)
 
   -- the records that an append adds
@@ -73,7 +73,7 @@ module _ {D B : Type 0} (seen : D → List ℕ) (may_leave : D → List ℕ → 
   -- a round that is appended, and the next one
   pub keeps_appended : (j j' : Journal D B) (a : Additions) (next : Round) (count : ℕ)
       → ((old new : List (List ℕ)) → IsSettled seen may_leave is_clean j old → Carries a.round new → IsSettled seen may_leave is_clean j' (old ++ new))
-      → Carries next [] → KeepsOn seen may_leave is_clean j a j' (record a { round = next; records = count })
+      → Carries next [] → ImportsOn seen may_leave is_clean j a j' (record a { round = next; records = count })
   unfolding imports_appended
   keeps_appended j j' a next count appended empty = λ records base from i.
       let h = i.added.importing in
@@ -121,7 +121,7 @@ module _ {D B : Type 0} (seen : D → List ℕ) (may_leave : D → List ℕ → 
 
   -- an import into a file that was read
   pub imported_into : (j j' : Journal D B) (file : List ℕ) (h : Header) (a a' : Additions) (c : Counts) → IsLoaded seen may_leave is_clean j h a.opened.stores a.opened.last.0 → header_in j ≡ h → seen (disk_behind j) ≡ file
-      → Carries a.round [] → a.files + a.folders ≡ 0 → KeepsWhole seen may_leave is_clean j a j' a' c → IsImported seen may_leave is_clean file j' h (count_of c)
+      → Carries a.round [] → a.files + a.folders ≡ 0 → EndsImport seen may_leave is_clean j a j' a' c → IsImported seen may_leave is_clean file j' h (count_of c)
   imported_into j j' file h a a' c loaded header same empty none whole = record {
     records = loaded.records;
     base = a.opened.stores;

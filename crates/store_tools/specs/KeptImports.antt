@@ -17,8 +17,8 @@ pub record HasAdded (base : Stores) (from : ℕ) (made : List (List ℕ)) (a : A
   pub counted : a.files + a.folders ≤ length importing.requests
 
 -- whatever was added since any stores, it goes on
-abbrev pub GoesOn : Additions → Additions → Type 0
-GoesOn a a' = (base : Stores) (from : ℕ) (made : List (List ℕ)) → HasAdded base from made a → HasAdded base from made a'
+abbrev pub AddsOn : Additions → Additions → Type 0
+AddsOn a a' = (base : Stores) (from : ℕ) (made : List (List ℕ)) → HasAdded base from made a → HasAdded base from made a'
 
 -- the records stand for these stores, but for locks that have expired at the moment, which is no earlier than their last one
 abbrev pub StandsButLocks : Header → List (List ℕ) → Stores → ℕ → Type 0
@@ -43,12 +43,12 @@ module _ {D B : Type 0} (seen : D → List ℕ) (may_leave : D → List ℕ → 
     pub stand : (h : Header) → StandFor h records base from → StandsButLocks h (records ++ made) s last
 
   -- an import into a journal goes on
-  abbrev pub KeepsOn : Journal D B → Additions → Journal D B → Additions → Type 0
-  KeepsOn j a j' a' = (records : List (List ℕ)) (base : Stores) (from : ℕ) → IsImportingInto j records base from a → IsImportingInto j' records base from a'
+  abbrev pub ImportsOn : Journal D B → Additions → Journal D B → Additions → Type 0
+  ImportsOn j a j' a' = (records : List (List ℕ)) (base : Stores) (from : ℕ) → IsImportingInto j records base from a → IsImportingInto j' records base from a'
 
   -- an import into a journal has ended: its round has no record, and what is told is in the journal, which stands for the stores as they are
-  abbrev pub KeepsWhole : Journal D B → Additions → Journal D B → Additions → Counts → Type 0
-  KeepsWhole j a j' a' c = Carries a'.round []
+  abbrev pub EndsImport : Journal D B → Additions → Journal D B → Additions → Counts → Type 0
+  EndsImport j a j' a' c = Carries a'.round []
       × ((records : List (List ℕ)) (base : Stores) (from : ℕ) → IsImportingInto j records base from a → IsImportedInto j' records base from a'.opened.stores a'.opened.last.0 (count_of c))
 
   -- A file had records that stand for stores. The journal has them, and at least so many behind them that were made of entries; all are on the disk, and they stand for stores, but for locks that have expired.

@@ -3,7 +3,7 @@ ghost use Rattle.std.specs.Prelude.{◌≡◌, ◌∷◌, ◌++◌, [], ℕ, Lis
 ghost use Rattle.journal_core.specs.Resting.{Carries, disk_behind};
 ghost use Rattle.store_tools.specs.Adding.{IsAdded, LeavesAll};
 ghost use Rattle.store_tools.specs.ImportedEntries.{source_of};
-ghost use Rattle.store_tools.specs.KeptImports.{GoesOn, KeepsOn, KeepsWhole};
+ghost use Rattle.store_tools.specs.KeptImports.{AddsOn, ImportsOn, EndsImport};
 
 use crate::adding::{Unimported, add};
 use crate::entries::Entry;
@@ -66,8 +66,8 @@ impl Additions {
     pub fn add(&mut self, alloc: Global, entry: &Entry, clock: Moment) -> Result<(), Unimported>
         ensures added { OnOk result (IsAdded self.old.opened.stores self.old.opened.last.0 clock.0 (source_of entry.now) self.new.opened.stores self.new.opened.last.0
             (λ bytes. (records : List (List ℕ)) → Carries self.old.round records → Carries self.new.round (records ++ bytes ∷ []))) }
-        ensures goes_on { OnOk result (GoesOn self.old self.new) }
-        ensures left { IfErr result (λ e. LeavesAll e → GoesOn self.old self.new) }
+        ensures goes_on { OnOk result (AddsOn self.old self.new) }
+        ensures left { IfErr result (λ e. LeavesAll e → AddsOn self.old self.new) }
     {
         add(alloc, &mut self.opened, &mut self.round, entry, clock)?;
         self.records = self.records.saturating_add(1);
@@ -85,7 +85,7 @@ impl Additions {
         journal: &mut Journal<D, ()>,
     ) -> Result<(), JournalError>
         requires usable { IsTrue (D.Disk.is_usable (disk_behind journal.old)) }
-        ensures keeps { OnOk result (KeepsOn D.Disk.seen D.Disk.may_leave D.Disk.is_clean journal.old self.old journal.new self.new) }
+        ensures keeps { OnOk result (ImportsOn D.Disk.seen D.Disk.may_leave D.Disk.is_clean journal.old self.old journal.new self.new) }
         ensures empty { OnOk result (Carries self.new.round []) }
         ensures clean { D.Disk.is_clean (disk_behind journal.new) ≡ D.Disk.is_clean (disk_behind journal.old) }
         ensures usable { OnOk result (IsTrue (D.Disk.is_usable (disk_behind journal.new))) }
@@ -105,7 +105,7 @@ impl Additions {
     ) -> Result<Counts, JournalError>
         requires usable { IsTrue (D.Disk.is_usable (disk_behind journal.old)) }
         // The round has no record any more, and the journal stands for the stores.
-        ensures imported { IfOk result (KeepsWhole D.Disk.seen D.Disk.may_leave D.Disk.is_clean journal.old self.old journal.new self.new) }
+        ensures imported { IfOk result (EndsImport D.Disk.seen D.Disk.may_leave D.Disk.is_clean journal.old self.old journal.new self.new) }
         ensures clean { D.Disk.is_clean (disk_behind journal.new) ≡ D.Disk.is_clean (disk_behind journal.old) }
     {
         self.append(alloc, journal)?;

@@ -3,7 +3,7 @@ ghost use Rattle.std.specs.Prelude.{◌≡◌, [], IfOk, IsTrue, OnOk};
 ghost use Rattle.sqlite_disk.specs.Disk.{Only};
 ghost use Rattle.journal_core.specs.JournalReading.{header_of};
 ghost use Rattle.journal_core.specs.Resting.{Carries, IsBeingRead, disk_behind};
-ghost use Rattle.store_tools.specs.KeptImports.{GoesOn, IsImported, KeepsOn, KeepsWhole, count_of};
+ghost use Rattle.store_tools.specs.KeptImports.{AddsOn, IsImported, ImportsOn, EndsImport, count_of};
 
 use crate::adding::{Unimported, check_free};
 use crate::additions::{Additions, BYTES, Counts};
@@ -143,7 +143,7 @@ fn import_from<D: Disk, O: Write + Drop>(
     output: &mut BufWriter<O>,
 ) -> Result<Counts, Failure>
     requires usable { IsTrue (D.Disk.is_usable (disk_behind journal.old)) }
-    ensures imported { IfOk result (KeepsWhole D.Disk.seen D.Disk.may_leave D.Disk.is_clean journal.old importer.old.added journal.new importer.new.added) }
+    ensures imported { IfOk result (EndsImport D.Disk.seen D.Disk.may_leave D.Disk.is_clean journal.old importer.old.added journal.new importer.new.added) }
     ensures all { OnOk result (importer.new.waiting.items ≡ []) }
     ensures clean { OnOk result (D.Disk.is_clean (disk_behind journal.new) ≡ D.Disk.is_clean (disk_behind journal.old)) }
 {
@@ -176,7 +176,7 @@ fn import_all<D: Disk, O: Write + Drop>(
     output: &mut BufWriter<O>,
 ) -> Result<Counts, Failure>
     requires usable { IsTrue (D.Disk.is_usable (disk_behind journal.old)) }
-    ensures imported { IfOk result (KeepsWhole D.Disk.seen D.Disk.may_leave D.Disk.is_clean journal.old import.old.added journal.new import.new.added) }
+    ensures imported { IfOk result (EndsImport D.Disk.seen D.Disk.may_leave D.Disk.is_clean journal.old import.old.added journal.new import.new.added) }
     ensures all { OnOk result (import.new.waiting.items ≡ []) }
     ensures clean { OnOk result (D.Disk.is_clean (disk_behind journal.new) ≡ D.Disk.is_clean (disk_behind journal.old)) }
 {
@@ -199,7 +199,7 @@ fn import_one<D: Disk, O: Write + Drop>(
     output: &mut BufWriter<O>,
 ) -> Result<(), Failure>
     requires usable { IsTrue (D.Disk.is_usable (disk_behind journal.old)) }
-    ensures keeps { OnOk result (KeepsOn D.Disk.seen D.Disk.may_leave D.Disk.is_clean journal.old import.old.added journal.new import.new.added) }
+    ensures keeps { OnOk result (ImportsOn D.Disk.seen D.Disk.may_leave D.Disk.is_clean journal.old import.old.added journal.new import.new.added) }
     ensures clean { OnOk result (D.Disk.is_clean (disk_behind journal.new) ≡ D.Disk.is_clean (disk_behind journal.old)) }
     ensures usable { OnOk result (IsTrue (D.Disk.is_usable (disk_behind journal.new))) }
 {
@@ -222,7 +222,7 @@ fn import_found<D: Disk, O: Write + Drop>(
     output: &mut BufWriter<O>,
 ) -> Result<(), Failure>
     requires usable { IsTrue (D.Disk.is_usable (disk_behind journal.old)) }
-    ensures keeps { OnOk result (KeepsOn D.Disk.seen D.Disk.may_leave D.Disk.is_clean journal.old import.old.added journal.new import.new.added) }
+    ensures keeps { OnOk result (ImportsOn D.Disk.seen D.Disk.may_leave D.Disk.is_clean journal.old import.old.added journal.new import.new.added) }
     ensures clean { OnOk result (D.Disk.is_clean (disk_behind journal.new) ≡ D.Disk.is_clean (disk_behind journal.old)) }
     ensures usable { OnOk result (IsTrue (D.Disk.is_usable (disk_behind journal.new))) }
 {
@@ -239,7 +239,7 @@ fn import_found<D: Disk, O: Write + Drop>(
 // Appends the round, which is on the disk at `Ok`, and begins the next.
 fn append<D: Disk>(import: &mut Importer<'_>, journal: &mut Journal<D, ()>) -> Result<(), Failure>
     requires usable { IsTrue (D.Disk.is_usable (disk_behind journal.old)) }
-    ensures keeps { OnOk result (KeepsOn D.Disk.seen D.Disk.may_leave D.Disk.is_clean journal.old import.old.added journal.new import.new.added) }
+    ensures keeps { OnOk result (ImportsOn D.Disk.seen D.Disk.may_leave D.Disk.is_clean journal.old import.old.added journal.new import.new.added) }
     ensures empty { OnOk result (Carries import.new.added.round []) }
     ensures clean { OnOk result (D.Disk.is_clean (disk_behind journal.new) ≡ D.Disk.is_clean (disk_behind journal.old)) }
     ensures usable { OnOk result (IsTrue (D.Disk.is_usable (disk_behind journal.new))) }
@@ -256,7 +256,7 @@ fn finish<D: Disk>(
     journal: &mut Journal<D, ()>,
 ) -> Result<Counts, Failure>
     requires usable { IsTrue (D.Disk.is_usable (disk_behind journal.old)) }
-    ensures imported { IfOk result (KeepsWhole D.Disk.seen D.Disk.may_leave D.Disk.is_clean journal.old import.old.added journal.new import.new.added) }
+    ensures imported { IfOk result (EndsImport D.Disk.seen D.Disk.may_leave D.Disk.is_clean journal.old import.old.added journal.new import.new.added) }
     ensures waiting { import.new.waiting ≡ import.old.waiting }
     ensures clean { OnOk result (D.Disk.is_clean (disk_behind journal.new) ≡ D.Disk.is_clean (disk_behind journal.old)) }
 {
@@ -322,7 +322,7 @@ impl<'a> Importer<'a> {
         meta: &Metadata,
         output: &mut BufWriter<O>,
     ) -> Result<(), Failure>
-        ensures goes_on { OnOk result (GoesOn self.old.added self.new.added) }
+        ensures goes_on { OnOk result (AddsOn self.old.added self.new.added) }
     {
         match self.add(found, None, meta)? {
             Ok(()) | Err(Unimported::Folder) => {}
@@ -337,7 +337,7 @@ impl<'a> Importer<'a> {
         meta: &Metadata,
         output: &mut BufWriter<O>,
     ) -> Result<(), Failure>
-        ensures goes_on { OnOk result (GoesOn self.old.added self.new.added) }
+        ensures goes_on { OnOk result (AddsOn self.old.added self.new.added) }
     {
         // So that what stands there already is not read in vain.
         if let Err(why) = check_free(
@@ -364,7 +364,7 @@ impl<'a> Importer<'a> {
         content: Option<Bytes>,
         meta: &Metadata,
     ) -> Result<Result<(), Unimported>, Failure>
-        ensures goes_on { OnOk result (GoesOn self.old.added self.new.added) }
+        ensures goes_on { OnOk result (AddsOn self.old.added self.new.added) }
     {
         let entry = Entry {
             path: found.path.clone()?,

@@ -4,6 +4,7 @@
 mod adopting;
 mod behind;
 mod change_lines;
+mod earlier;
 mod failures;
 mod following;
 mod later;
@@ -18,6 +19,7 @@ mod taking;
 
 pub use adopting::{End, adopt, end_of, header_of, is_wanted};
 pub use behind::{Found, Tail, round_behind};
+pub use earlier::{Reach, reach};
 pub use failures::Failure;
 pub use following::follow;
 pub use later::{Later, later_in, tell_later};

@@ -79,10 +79,10 @@ dated : (m : ℕ) (path : Path) (modified : Option ℕ) → AllAt m (dating m pa
 dated m path None = tt
 dated m path (Some x) = (refl, tt)
 
-all_at : (m : ℕ) (source : Source) → AllAt m (notes_for m source)
+pub all_at : (m : ℕ) (source : Source) → AllAt m (notes_for m source)
 all_at m source = (refl, dated m source.path source.modified)
 
-leads_at : (last m : ℕ) (s t : Stores) (ns : List Noted) → AllAt m ns → last ≤ m → NotesPlayed s ns t → NotesLead last s ns m t
+pub leads_at : (last m : ℕ) (s t : Stores) (ns : List Noted) → AllAt m ns → last ≤ m → NotesPlayed s ns t → NotesLead last s ns m t
 leads_at last m s t [] all le h = (le, ap (live_stores m) h)
 leads_at last m s t (n ∷ ns) all le h =
     let before : last ≤ n.request.now = omega (arith, le, all.0) in
@@ -92,7 +92,7 @@ leads_at last m s t (n ∷ ns) all le h =
 -- ---- an entry more, or none
 
 -- the requests of one entry more
-flat_more : (requests : List (List Noted)) (ns : List Noted) → flat_map (λ (l : List Noted). l) requests ++ ns ≡ flat_map (λ l. l) (requests ++ ns ∷ [])
+pub flat_more : (requests : List (List Noted)) (ns : List Noted) → flat_map (λ (l : List Noted). l) requests ++ ns ≡ flat_map (λ l. l) (requests ++ ns ∷ [])
 flat_more requests ns =
     ap (λ (l : List Noted). flat_map (λ k. k) requests ++ l) (sym (append-nil ns)) ∙ sym (flat_map-append (λ (l : List Noted). l) requests (ns ∷ []))
 

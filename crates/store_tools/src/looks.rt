@@ -7,7 +7,7 @@ use std::io::{self, BufWriter, Write};
 use store_files::{Opening, Uncompacted, Unwatched, make_store};
 use store_views::{
     Broken, Failure, Found, Front, Reach, Seen, Tail, Whole, adopt, end_of, header_of, is_wanted,
-    later_in, list, look, reach, read_front, round_behind, tell_later,
+    later_in, list, look, look_until, read_front, round_behind, tell_later,
 };
 
 /// Reads the file to its end, and does what is asked. Whether it is whole, and something is there to tell, and all was done.
@@ -29,7 +29,7 @@ pub fn export_at<O: Write + Drop>(
     moment: Moment,
     output: &mut BufWriter<O>,
 ) -> Result<bool, Failure> {
-    match reach(rt.alloc(), input(rt, path)?, moment)? {
+    match look_until(rt.alloc(), input(rt, path)?, moment)? {
         Reach::New => {
             tell_new(output)?;
             Ok(true)

@@ -37,7 +37,7 @@ impl From<RecordError> for Unknown {
 }
 
 /// Reads a file up to the first record that is of a later moment than this one (own). The records are not played. An error where there is no memory, or a read fails.
-pub fn reach<I: Read + Drop>(
+pub fn look_until<I: Read + Drop>(
     alloc: Global,
     input: BufReader<I>,
     moment: Moment,
@@ -49,7 +49,7 @@ pub fn reach<I: Read + Drop>(
             if header.generation == 0 && moment.0 < header.began {
                 return Ok(Reach::From(Moment(header.began)));
             }
-            reach_on(alloc, &mut source, &mut reader, moment)
+            look_on_until(alloc, &mut source, &mut reader, moment)
         }
         Ok(None) => Ok(Reach::New),
         Err(error) => stopped(StoreError::Journal(error), 0, 0),
@@ -57,7 +57,7 @@ pub fn reach<I: Read + Drop>(
 }
 
 // Reads what stands behind the header.
-fn reach_on<I: Read + Drop>(
+fn look_on_until<I: Read + Drop>(
     alloc: Global,
     source: &mut Stream<BufReader<I>>,
     reader: &mut Reader,

@@ -19,7 +19,7 @@ mod taking;
 
 pub use adopting::{End, adopt, end_of, header_of, is_wanted};
 pub use behind::{Found, Tail, round_behind};
-pub use earlier::{Reach, reach};
+pub use earlier::{Reach, look_until};
 pub use failures::Failure;
 pub use following::follow;
 pub use later::{Later, later_in, tell_later};

@@ -1,6 +1,5 @@
 -- How the additions of an import go on, and what is kept of them in a journal.
-use Rattle.std.proofs.Common.{◌≡◌, ◌≤◌, ◌+◌, ℕ, Bool, List, [], ◌∷◌, ◌++◌, length, refl, sym, ◌∙◌, ap, append_assoc, append-nil, subst, arith, inr}
-use Rattle.std.proofs.lemmas.Grind.{length-append}
+use Rattle.std.proofs.Common.{◌≡◌, ◌≤◌, ◌+◌, ℕ, Bool, Result, Ok, Err, IfOk, OnOk, List, [], ◌∷◌, ◌++◌, length, refl, sym, ◌∙◌, ap, append_assoc, append-nil, length-append, suc, subst, arith, inr}
 use Rattle.journal_core.specs.declared.header.Header.{Header}
 use Rattle.journal_core.specs.declared.journal.Journal.{Journal}
 use Rattle.journal_core.specs.declared.round.Round.{Round}
@@ -132,3 +131,10 @@ module _ {D B : Type 0} (seen : D → List ℕ) (may_leave : D → List ℕ → 
     last = a'.opened.last.0;
     imported = whole.1 loaded.records a.opened.stores a.opened.last.0 (keeps_none j loaded.records a loaded.settled empty none);
   }
+
+-- ---- results
+
+-- two facts of a result
+pub if_ok_and : {T E : Type 0} (r : Result T E) (P : T → Type 0) (Q : Type 0) (R : T → Type 0) → ((x : T) → P x → Q → R x) → IfOk r P → OnOk r Q → IfOk r R
+if_ok_and (Ok x) P Q R join p q = join x p q
+if_ok_and (Err e) P Q R join p q = tt

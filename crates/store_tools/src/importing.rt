@@ -2,7 +2,8 @@
 ghost use Rattle.std.specs.Prelude.{◌≡◌, [], IfOk, IsTrue, OnOk};
 ghost use Rattle.sqlite_disk.specs.Disk.{Only};
 ghost use Rattle.journal_core.specs.JournalReading.{header_of};
-ghost use Rattle.journal_core.specs.Resting.{Carries, IsBeingRead, disk_behind};
+ghost use Rattle.journal_core.specs.Resting.{Carries, IsBeingRead, disk_behind, header_in};
+ghost use Rattle.dav_store_core.specs.Loading.{IsLoaded};
 ghost use Rattle.store_tools.specs.KeptImports.{AddsOn, IsImported, ImportsOn, EndsImport, count_of};
 
 use crate::adding::{Unimported, check_free};
@@ -161,6 +162,13 @@ fn read_all<D: Disk>(
     reader: &mut Reader,
 ) -> Result<Opened, StoreError>
     requires usable { IsTrue (D.Disk.is_usable (disk_behind journal.old)) }
+    // As `load` says it.
+    ensures stands { IfOk result (λ o. IsBeingRead D.Disk.seen D.Disk.is_clean journal.old reader.old []
+        → IsTrue (D.Disk.is_clean (disk_behind journal.new))
+        → Only (D.Disk.seen (disk_behind journal.old)) (D.Disk.may_leave (disk_behind journal.old))
+        → IsLoaded D.Disk.seen D.Disk.may_leave D.Disk.is_clean journal.new (header_of reader.old) o.stores o.last.0) }
+    ensures header { OnOk result (IsBeingRead D.Disk.seen D.Disk.is_clean journal.old reader.old [] → header_in journal.new ≡ header_of reader.old) }
+    ensures seen { D.Disk.seen (disk_behind journal.new) ≡ D.Disk.seen (disk_behind journal.old) }
     ensures usable { IsTrue (D.Disk.is_usable (disk_behind journal.new)) }
 {
     let mut opening = Opening::of(rt, path);

@@ -1,4 +1,5 @@
 """What davstore imports from folders of the system, and exports into them, beside what stands there: rows of tests/davstore."""
+import errno
 import os
 import random
 import re
@@ -12,6 +13,7 @@ import time
 import urllib.parse
 import xml.etree.ElementTree
 
+from disks import calls_of, tracer
 from frames import LOCK_INFO, frame, pieces, request
 
 TIME = "{urn:dav-resource-core:import}modified"
@@ -255,6 +257,74 @@ def failing(stores):
     yield "what was imported before it", asked.ask("list")[1][1:] in ([], [line for line in asked.ask("list")[1] if line.endswith(" /a")])
 
 
+def inode_of(path):
+    return os.stat(path).st_ino
+
+
+def synced(stores):
+    """What is exported is on the disk at the end, and a sync that fails ends the export."""
+    asked = Asked(stores, "synced")
+    make(asked.at("in"), {b"a": b"1", b"d": None, b"d/e": None, b"d/e/f": b"2", b"empty": None, b"g": b""})
+    asked.ask("import", asked.at("in"))
+    trace, library = asked.at("trace"), tracer(asked.top)
+
+    def export(**environment):
+        shutil.rmtree(asked.out, ignore_errors=True)
+        return asked.ask("export", asked.out, env={**os.environ, "LD_PRELOAD": library, **environment})
+
+    yield "it is exported under a tracer", export(TRACE=trace) == (0, [], "") and read(asked.out) == read(asked.at("in"))
+    syncs = [call.inode for call in calls_of(trace) if call.kind == b"s" and call.done == 0]
+    last = {inode: place for place, inode in enumerate(syncs)}
+    members = [os.path.join(asked.out, os.fsdecode(path)) for path in read(asked.out)]
+    yield "each file and folder is synced", all(inode_of(path) in last for path in [asked.top, asked.out, *members])
+    yield "a folder is synced behind what is made in it", all(last.get(inode_of(path), -1) < last.get(inode_of(os.path.dirname(path)), -1) for path in members)
+    for number in range(1, len(syncs) + 1):
+        status, lines, why = export(FAIL=f"{number}:{errno.EIO}")
+        yield f"sync {number} fails", (status, lines) == (3, []) and why.startswith(asked.out)
+    yield "no sync more", export(FAIL=f"{len(syncs) + 1}:{errno.EIO}") == (0, [], "")
+
+
+def earlier(stores, davserve):
+    """What stood in a store at a moment is exported, as far as its records go back."""
+    asked, first, second, third = Asked(stores, "earlier"), 10**18, 2 * 10**18, 3 * 10**18
+    asked.serve(davserve, [request(b"PUT /a", b"1")], first)
+    asked.serve(davserve, [request(b"PUT /a", b"2"), request(b"MKCOL /d")], second)
+    asked.serve(davserve, [request(b"DELETE /a"), request(b"PUT /d/b", b"3")], third)
+    states = {first: {b"a": b"1"}, second: {b"a": b"2", b"d": None}, third: {b"d": None, b"d/b": b"3"}}
+
+    def export(moment):
+        shutil.rmtree(asked.out, ignore_errors=True)
+        told = asked.ask("export", asked.out, "--at", str(moment))[:2]
+        return told, {path: content for path, (content, _) in read(asked.out).items()} if os.path.exists(asked.out) else None
+
+    for moment, state in states.items():
+        yield f"as it was at {moment}", export(moment) == ((0, []), state) and export(moment + 5) == ((0, []), state)
+    yield "right before a change", export(second - 1) == ((0, []), states[first]) and export(third - 1) == ((0, []), states[second])
+    yield "behind all moments", export(2**64 - 1) == ((0, []), states[third])
+    (status, lines), there = export(0)
+    began = int(lines[0].removeprefix("its records go back to moment "))
+    yield "before it was begun", status == 1 and len(lines) == 1 and there is None and 0 < began <= first
+    yield "when it was begun", export(began)[0] == (0, []) and export(began - 1) == ((1, lines), None) and (began == first or export(began)[1] == {})
+    for words in (["export", asked.out, "--at"], ["export", asked.out, "--at", "x"], ["export", asked.out, "--at", "1", "2"], ["list", "/", "--at", "1"], ["export", asked.out, "--by", "1"]):
+        yield f"no words: {' '.join(words[2:])}", asked.ask(*words)[0] == 2
+    whole = asked.bytes()
+    with open(asked.path, "wb") as file:
+        file.write(whole.replace(b"/d/b", b"/d/c"))
+    broken = asked.ask("check")[1]
+    yield "broken behind it", asked.ask("check")[0] == 1 and export(second) == ((0, []), states[second])
+    yield "broken before it", export(third) == ((1, broken), None)
+    with open(asked.path, "wb") as file:
+        file.write(whole)
+    asked.ask("compact")
+    asked.serve(davserve, [request(b"PUT /e", b"4")], third + 7)
+    lines = [f"its records go back to moment {third}"]
+    yield "before it was compacted", export(third - 1) == ((1, lines), None) and export(began - 1) == ((1, lines), None)
+    yield "since it was compacted", export(third) == ((0, []), states[third]) and export(third + 7) == ((0, []), states[third] | {b"e": b"4"})
+    with open(asked.path, "wb"):
+        pass
+    yield "as a new file was", export(third) == ((0, ["new"]), None)
+
+
 def killed(stores, rounds):
     """An import is killed at random moments, and goes on."""
     chance, names, asked = random.Random(7), [b"f%03d" % number for number in range(300)], Asked(stores, "killed")
@@ -287,5 +357,5 @@ def killed(stores, rounds):
 
 def rows(stores, davserve, records):
     """Each with its name, and whether it is right."""
-    for part in (trees(stores), unexported(stores, records), going_on(stores, davserve), failing(stores), killed(stores, 4)):
+    for part in (trees(stores), unexported(stores, records), going_on(stores, davserve), failing(stores), synced(stores), earlier(stores, davserve), killed(stores, 4)):
         yield from part

@@ -79,10 +79,10 @@ dated : (m : ℕ) (path : Path) (modified : Option ℕ) → AllAt m (dating m pa
 dated m path None = tt
 dated m path (Some x) = (refl, tt)
 
-all_at : (m : ℕ) (source : Source) → AllAt m (notes_for m source)
+pub all_at : (m : ℕ) (source : Source) → AllAt m (notes_for m source)
 all_at m source = (refl, dated m source.path source.modified)
 
-leads_at : (last m : ℕ) (s t : Stores) (ns : List Noted) → AllAt m ns → last ≤ m → NotesPlayed s ns t → NotesLead last s ns m t
+pub leads_at : (last m : ℕ) (s t : Stores) (ns : List Noted) → AllAt m ns → last ≤ m → NotesPlayed s ns t → NotesLead last s ns m t
 leads_at last m s t [] all le h = (le, ap (live_stores m) h)
 leads_at last m s t (n ∷ ns) all le h =
     let before : last ≤ n.request.now = omega (arith, le, all.0) in
@@ -92,12 +92,12 @@ leads_at last m s t (n ∷ ns) all le h =
 -- ---- an entry more, or none
 
 -- the requests of one entry more
-flat_more : (requests : List (List Noted)) (ns : List Noted) → flat_map (λ (l : List Noted). l) requests ++ ns ≡ flat_map (λ l. l) (requests ++ ns ∷ [])
+pub flat_more : (requests : List (List Noted)) (ns : List Noted) → flat_map (λ (l : List Noted). l) requests ++ ns ≡ flat_map (λ l. l) (requests ++ ns ∷ [])
 flat_more requests ns =
     ap (λ (l : List Noted). flat_map (λ k. k) requests ++ l) (sym (append-nil ns)) ∙ sym (flat_map-append (λ (l : List Noted). l) requests (ns ∷ []))
 
 module _ (base s t : Stores) (from last m : ℕ) (made : List (List ℕ)) (old new : List (List ℕ) → Type 0) (i : IsImporting base from made old s last) where
-  pub imports_more : (clock : ℕ) (source : Source) → IsAdded s last clock source t m (λ bytes. (records : List (List ℕ)) → old records → new (records ++ bytes ∷ [])) → IsImporting base from made new t m
+  unfoldable pub imports_more : (clock : ℕ) (source : Source) → IsAdded s last clock source t m (λ bytes. (records : List (List ℕ)) → old records → new (records ++ bytes ∷ [])) → IsImporting base from made new t m
   imports_more clock source a =
       let le : last ≤ m = omega (arith, a.moment) in
       record {
@@ -110,7 +110,7 @@ module _ (base s t : Stores) (from last m : ℕ) (made : List (List ℕ)) (old n
             (leads_join from last m base s t (flat_map (λ l. l) i.requests) (notes_for m source) i.leads (leads_at last m s t (notes_for m source) (all_at m source) le a.played));
       }
 
-  pub imports_left : StaysLive s last t m → ((records : List (List ℕ)) → old records → new records) → IsImporting base from made new t m
+  unfoldable pub imports_left : StaysLive s last t m → ((records : List (List ℕ)) → old records → new records) → IsImporting base from made new t m
   imports_left left round = record {
     requests = i.requests;
     waiting = i.waiting;
@@ -122,7 +122,7 @@ module _ (base s t : Stores) (from last m : ℕ) (made : List (List ℕ)) (old n
 -- ---- a round
 
 module _ (base s : Stores) (from last : ℕ) (made : List (List ℕ)) (old new : List (List ℕ) → Type 0) (i : IsImporting base from made old s last) where
-  pub imports_appended : new [] → IsImporting base from (made ++ i.waiting) new s last
+  unfoldable pub imports_appended : new [] → IsImporting base from (made ++ i.waiting) new s last
   imports_appended empty = record {
     requests = i.requests;
     waiting = [];

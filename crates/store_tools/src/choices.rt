@@ -16,6 +16,8 @@ pub enum What<'a> {
     Import(&'a str),
     /// The lock with this token is ended.
     Unlock(&'a str),
+    /// What stood in it at this moment is put into this folder, which is made.
+    ExportAt(&'a str, u64),
     /// Its rounds are written out as they come, from the one on that ends at this byte.
     Follow(Option<u64>),
     /// What comes from one that is followed is added to it.
@@ -49,13 +51,21 @@ pub struct Choices<'a> {
 }
 
 impl<'a> Choices<'a> {
-    /// A path, and then `check`; or `list` with a folder or without one; or `locks`; or `unlock` with a token; or `log`, with `--bodies` or without it; or `compact`; or `new`; or `import` or `export` with a folder of the system; or `salvage` with a file; or
+    /// A path, and then `check`; or `list` with a folder or without one; or `locks`; or `unlock` with a token; or `log`, with `--bodies` or without it; or `compact`; or `new`; or `import` or `export` with a folder of the system, this one also with `--at` and a moment; or `salvage` with a file; or
     /// `adopt`, with `--yes` or without it; or `follow`, with a number of bytes or without one; or `take`. None where the words are other than that.
     pub fn of(words: &'a [String]) -> Option<Choices<'a>> {
         let (path, rest) = words.split_first()?;
         let what = match rest {
             [word] => alone(word.as_str())?,
             [word, next] => with(word.as_str(), next.as_str())?,
+            [word, next, option, value] => {
+                with_value(
+                    word.as_str(),
+                    next.as_str(),
+                    option.as_str(),
+                    value.as_str(),
+                )?
+            }
             _ => return None,
         };
         Some(Choices {
@@ -99,6 +109,14 @@ fn with_option<'a>(word: &str, option: &str) -> Option<What<'a>> {
     match (word, option) {
         ("log", "--bodies") => Some(What::Log(true)),
         ("adopt", "--yes") => Some(What::Read(Purpose::Adopt(true))),
+        _ => None,
+    }
+}
+
+// What a word chooses with the next one and an option, which has a value.
+fn with_value<'a>(word: &str, next: &'a str, option: &str, value: &str) -> Option<What<'a>> {
+    match (word, option) {
+        ("export", "--at") => Some(What::ExportAt(next, number(value)?)),
         _ => None,
     }
 }

@@ -10,7 +10,7 @@ use std::collections::BTreeMap;
 use std::fs::{self, File, OpenOptions};
 use std::io::{self, BufWriter, ErrorKind, Write};
 use std::time::{Duration, SystemTime, UNIX_EPOCH};
-use store_files::Progress;
+use store_files::{Progress, sync_folder};
 use store_views::{Failure, Paths};
 
 // An export in work.
@@ -42,7 +42,7 @@ impl From<AllocError> for Unmade {
     }
 }
 
-/// Makes each folder and file of the stores below a folder of the system (own), and tells what can't be had there. Whether nothing was left out.
+/// Makes each folder and file of the stores below a folder of the system (own), and tells what can't be had there. Whether nothing was left out. At `Ok` all that was made is synced.
 ///
 /// - `NotEmpty`: something stands there that is no empty folder, and nothing is done.
 /// - `At`, `Failed`: a call of the system failed, or there is no memory.
@@ -65,14 +65,15 @@ pub fn export<O: Write + Drop>(
     export.export_all(stores, folder, output)
 }
 
-// Makes the folder, or finds an empty one.
+// Makes the folder, whose name is synced then, or finds an empty one.
 fn begin_folder(rt: &HostRuntime, folder: &str) -> Result<(), Failure> {
     let alloc = rt.alloc();
     match fs::symlink_metadata(rt, folder) {
         Ok(found) if found.is_dir() && names_of(rt, folder)?.is_empty() => Ok(()),
         Ok(_) => Err(Failure::NotEmpty(String::from_str(alloc, folder)?)),
         Err(error) if error.kind() == ErrorKind::NotFound => {
-            at(alloc, folder, fs::create_dir(rt, folder))
+            at(alloc, folder, fs::create_dir(rt, folder))?;
+            at(alloc, folder, sync_folder(rt, folder))
         }
         Err(error) => Err(Failure::At(String::from_str(alloc, folder)?, error)),
     }
@@ -91,15 +92,15 @@ impl Exporter<'_> {
             self.tell_progress();
         }
         self.progress.end();
-        self.set_times()?;
+        self.end_folders()?;
         Ok(self.left_out == 0)
     }
 
-    // Sets the times of the folders, from the last to the first: what is made in a folder changes its time.
-    fn set_times(&self) -> Result<(), Failure> {
+    // Ends the folders, from the last to the first: what is made in a folder changes its time.
+    fn end_folders(&self) -> Result<(), Failure> {
         for (place, time) in self.folders.iter().rev() {
-            let made = File::open(self.rt, place.as_str());
-            set_time(self.rt.alloc(), place.as_str(), made, *time)?;
+            let ended = end_folder(self.rt, place.as_str(), *time);
+            at(self.rt.alloc(), place.as_str(), ended)?;
         }
         Ok(())
     }
@@ -217,9 +218,28 @@ fn make_file(rt: &HostRuntime, place: &str, bytes: &[u8], time: Moment) -> Resul
         .create_new(true)
         .open(rt, place);
     let mut file = made_at(rt.alloc(), place, made)?;
-    let written = file.write_all(bytes);
-    at(rt.alloc(), place, written).map_err(Unmade::Failed)?;
-    set_time(rt.alloc(), place, Ok(file), time).map_err(Unmade::Failed)
+    let filled = fill(&mut file, bytes, time);
+    at(rt.alloc(), place, filled).map_err(Unmade::Failed)
+}
+
+// Writes a file that was made, and ends it.
+fn fill(file: &mut File, bytes: &[u8], time: Moment) -> io::Result<()> {
+    file.write_all(bytes)?;
+    end(file, time)
+}
+
+// Ends a folder, in which all is made.
+fn end_folder(rt: &HostRuntime, place: &str, time: Moment) -> io::Result<()> {
+    let folder = File::open(rt, place)?;
+    end(&folder, time)
+}
+
+// Sets the time of a file or a folder, and syncs it.
+fn end(file: &File, time: Moment) -> io::Result<()> {
+    if let Some(time) = system_time(time) {
+        file.set_modified(time)?;
+    }
+    file.sync_all()
 }
 
 // What the system made there, or why it could not.
@@ -231,20 +251,6 @@ fn made_at<T: Drop>(alloc: Global, place: &str, made: io::Result<T>) -> Result<T
             ErrorKind::AlreadyExists => Err(Unmade::Told("its name is taken")),
             _ => Err(Unmade::Failed(Failure::At(String::from_str(alloc, place)?, error))),
         },
-    }
-}
-
-// Sets the time of an open file or folder.
-fn set_time(
-    alloc: Global,
-    place: &str,
-    opened: io::Result<File>,
-    time: Moment,
-) -> Result<(), Failure> {
-    let file = at(alloc, place, opened)?;
-    match system_time(time) {
-        Some(time) => at(alloc, place, file.set_modified(time)),
-        None => Ok(()),
     }
 }
 

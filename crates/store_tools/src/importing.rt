@@ -1,14 +1,19 @@
 //! Importing: what stands in a folder of the system is put into the stores of a file.
-ghost use Rattle.std.specs.Prelude.{IsTrue, OnOk};
-ghost use Rattle.journal_core.specs.Resting.{disk_behind};
+ghost use Rattle.std.specs.Prelude.{◌≡◌, [], IfOk, IsTrue, OnOk};
+ghost use Rattle.sqlite_disk.specs.Disk.{Only};
+ghost use Rattle.journal_core.specs.JournalReading.{header_of};
+ghost use Rattle.journal_core.specs.Resting.{Carries, IsBeingRead, disk_behind, header_in};
+ghost use Rattle.dav_store_core.specs.Loading.{IsLoaded};
+ghost use Rattle.store_tools.specs.KeptImports.{AddsOn, IsImported, ImportsOn, EndsImport, count_of};
 
-use crate::adding::{Unimported, add, check_free};
+use crate::adding::{Unimported, check_free};
+use crate::additions::{Additions, BYTES, Counts};
 use crate::entries::Entry;
 use crate::sources::{Found, bytes_of, member_of, names_of, source_of, time_of};
 use bytes::Bytes;
 use dav_path_core::davpath::ParseError;
 use dav_store_core::{Opened, StoreError, load};
-use journal_core::{Journal, Reader, Round};
+use journal_core::{Journal, JournalError, Reader};
 use journal_file::open;
 use sqlite_disk::Disk;
 use sqlite_std_file::Wary;
@@ -21,12 +26,6 @@ use store_files::{
 };
 use store_views::{Failure, told_member, told_path};
 
-/// So many records stand in a round, at most.
-const RECORDS: usize = 64;
-
-/// From so many bytes on a round is appended. A file that has as many is a round of its own.
-const BYTES: usize = 4 * 1024 * 1024;
-
 const MEGABYTE: u64 = 1_000_000;
 
 // An import in work.
@@ -36,14 +35,11 @@ struct Importer<'a> {
     progress: Progress<'a>,
     // What stands at the path of the stores' own file.
     own: Metadata,
-    opened: Opened,
-    // The records that are not appended yet, and how many.
-    round: Round,
-    records: usize,
+    // What was added to the stores.
+    added: Additions,
     // What is still to be imported; the next is the last.
     waiting: Vec<Found>,
-    files: u64,
-    folders: u64,
+    // How many bytes the files have that were added.
     bytes: u64,
     left_out: u64,
 }
@@ -69,7 +65,10 @@ pub fn import<O: Write + Drop>(
         tell_empty(path, output)?;
         return Ok(false);
     };
-    import_into(rt, path, &mut journal, &mut reader, &source, output)
+    let own = fs::metadata(rt, path)?;
+    let counts = import_into(rt, path, &mut journal, &mut reader, &source, output)?;
+    let is_there = is_still(rt, path, &own, output)?;
+    Ok(counts.tell(output)? && is_there)
 }
 
 // Whether a file stands there that may be opened. It is made where nothing does.
@@ -119,7 +118,7 @@ pub fn unmade(error: Uncompacted) -> Failure {
     }
 }
 
-// Puts what stands in the folder into the stores that the journal keeps.
+// Puts what stands in the folder into the stores that the journal keeps. At `Ok` all of it is on the disk.
 fn import_into<D: Disk, O: Write + Drop>(
     rt: &HostRuntime,
     path: &str,
@@ -127,14 +126,18 @@ fn import_into<D: Disk, O: Write + Drop>(
     reader: &mut Reader,
     source: &Found,
     output: &mut BufWriter<O>,
-) -> Result<bool, Failure>
+) -> Result<Counts, Failure>
     requires usable { IsTrue (D.Disk.is_usable (disk_behind journal.old)) }
+    // The file has the records that it had, and one for each file and folder that is counted, unless a read of the disk lied.
+    ensures imported { IfOk result (λ counts. IsBeingRead D.Disk.seen D.Disk.is_clean journal.old reader.old []
+        → IsTrue (D.Disk.is_clean (disk_behind journal.new))
+        → Only (D.Disk.seen (disk_behind journal.old)) (D.Disk.may_leave (disk_behind journal.old))
+        → IsImported D.Disk.seen D.Disk.may_leave D.Disk.is_clean (D.Disk.seen (disk_behind journal.old)) journal.new (header_of reader.old) (count_of counts)) }
 {
     let own = fs::metadata(rt, path)?;
     let opened = read_all(rt, path, journal, reader)?;
     let mut importer = Importer::over(rt, opened, own);
-    let is_whole = import_from(&mut importer, journal, source, output)?;
-    Ok(is_still(rt, path, &importer.own, output)? && is_whole)
+    import_from(&mut importer, journal, source, output)
 }
 
 // Whether the name still leads to the file, which is told where it does not.
@@ -156,20 +159,22 @@ fn is_still<O: Write + Drop>(
     }
 }
 
-// Puts what stands in the folder into the stores, and tells how much that was.
+// Puts what stands in the folder into the stores.
 fn import_from<D: Disk, O: Write + Drop>(
     importer: &mut Importer<'_>,
     journal: &mut Journal<D, ()>,
     source: &Found,
     output: &mut BufWriter<O>,
-) -> Result<bool, Failure>
+) -> Result<Counts, Failure>
     requires usable { IsTrue (D.Disk.is_usable (disk_behind journal.old)) }
+    ensures imported { IfOk result (EndsImport D.Disk.seen D.Disk.may_leave D.Disk.is_clean journal.old importer.old.added journal.new importer.new.added) }
+    ensures all { OnOk result (importer.new.waiting.items ≡ []) }
+    ensures clean { OnOk result (D.Disk.is_clean (disk_behind journal.new) ≡ D.Disk.is_clean (disk_behind journal.old)) }
 {
     importer.enter(source, output)?;
     let imported = import_all(importer, journal, output);
     importer.progress.end();
-    imported?;
-    importer.tell_end(output)
+    imported
 }
 
 /// The stores that the journal keeps. How far the file was read is told.
@@ -180,6 +185,13 @@ pub(crate) fn read_all<D: Disk>(
     reader: &mut Reader,
 ) -> Result<Opened, StoreError>
     requires usable { IsTrue (D.Disk.is_usable (disk_behind journal.old)) }
+    // As `load` says it.
+    ensures stands { IfOk result (λ o. IsBeingRead D.Disk.seen D.Disk.is_clean journal.old reader.old []
+        → IsTrue (D.Disk.is_clean (disk_behind journal.new))
+        → Only (D.Disk.seen (disk_behind journal.old)) (D.Disk.may_leave (disk_behind journal.old))
+        → IsLoaded D.Disk.seen D.Disk.may_leave D.Disk.is_clean journal.new (header_of reader.old) o.stores o.last.0) }
+    ensures header { OnOk result (IsBeingRead D.Disk.seen D.Disk.is_clean journal.old reader.old [] → header_in journal.new ≡ header_of reader.old) }
+    ensures seen { D.Disk.seen (disk_behind journal.new) ≡ D.Disk.seen (disk_behind journal.old) }
     ensures usable { IsTrue (D.Disk.is_usable (disk_behind journal.new)) }
 {
     let mut opening = Opening::of(rt, path);
@@ -188,22 +200,26 @@ pub(crate) fn read_all<D: Disk>(
     opened
 }
 
-// Imports all that waits.
+// Imports all that waits. At `Ok` all of it is on the disk.
 fn import_all<D: Disk, O: Write + Drop>(
     import: &mut Importer<'_>,
     journal: &mut Journal<D, ()>,
     output: &mut BufWriter<O>,
-) -> Result<(), Failure>
+) -> Result<Counts, Failure>
     requires usable { IsTrue (D.Disk.is_usable (disk_behind journal.old)) }
+    ensures imported { IfOk result (EndsImport D.Disk.seen D.Disk.may_leave D.Disk.is_clean journal.old import.old.added journal.new import.new.added) }
+    ensures all { OnOk result (import.new.waiting.items ≡ []) }
+    ensures clean { OnOk result (D.Disk.is_clean (disk_behind journal.new) ≡ D.Disk.is_clean (disk_behind journal.old)) }
 {
+    // A loop is proved to end, so this one counts its turns.
     'importing: for _ in 0..u64::MAX {
         let Some(found) = import.waiting.pop() else {
-            break 'importing;
+            return finish(import, journal);
         };
         import_one(import, journal, &found, output)?;
         import.tell_progress();
     }
-    append(import, journal)
+    Err(Failure::Unkept(JournalError::TooLarge))
 }
 
 // Imports what was found, and what stands in it, if it is a folder, waits.
@@ -214,67 +230,92 @@ fn import_one<D: Disk, O: Write + Drop>(
     output: &mut BufWriter<O>,
 ) -> Result<(), Failure>
     requires usable { IsTrue (D.Disk.is_usable (disk_behind journal.old)) }
+    ensures keeps { OnOk result (ImportsOn D.Disk.seen D.Disk.may_leave D.Disk.is_clean journal.old import.old.added journal.new import.new.added) }
+    ensures clean { OnOk result (D.Disk.is_clean (disk_behind journal.new) ≡ D.Disk.is_clean (disk_behind journal.old)) }
     ensures usable { OnOk result (IsTrue (D.Disk.is_usable (disk_behind journal.new))) }
 {
     let Some(meta) = import.look_at(found, output)? else {
         return Ok(());
     };
-    if meta.is_dir() {
-        import.add_folder(found, &meta, output)?;
-    } else {
-        if meta.len() >= BYTES as u64 {
-            append(import, journal)?;
-        }
-        import.add_file(found, &meta, output)?;
-    }
-    if import.records < RECORDS && import.round.len() < BYTES {
+    import_found(import, journal, found, &meta, output)?;
+    if !import.added.is_full() {
         return Ok(());
     }
     append(import, journal)
 }
 
+// Imports a folder or a file, of which so much is known. A long file is in a round of its own.
+fn import_found<D: Disk, O: Write + Drop>(
+    import: &mut Importer<'_>,
+    journal: &mut Journal<D, ()>,
+    found: &Found,
+    meta: &Metadata,
+    output: &mut BufWriter<O>,
+) -> Result<(), Failure>
+    requires usable { IsTrue (D.Disk.is_usable (disk_behind journal.old)) }
+    ensures keeps { OnOk result (ImportsOn D.Disk.seen D.Disk.may_leave D.Disk.is_clean journal.old import.old.added journal.new import.new.added) }
+    ensures clean { OnOk result (D.Disk.is_clean (disk_behind journal.new) ≡ D.Disk.is_clean (disk_behind journal.old)) }
+    ensures usable { OnOk result (IsTrue (D.Disk.is_usable (disk_behind journal.new))) }
+{
+    if meta.is_dir() {
+        return import.add_folder(found, meta, output);
+    }
+    if meta.len() < BYTES as u64 {
+        return import.add_file(found, meta, output);
+    }
+    append(import, journal)?;
+    import.add_file(found, meta, output)
+}
+
 // Appends the round, which is on the disk at `Ok`, and begins the next.
 fn append<D: Disk>(import: &mut Importer<'_>, journal: &mut Journal<D, ()>) -> Result<(), Failure>
     requires usable { IsTrue (D.Disk.is_usable (disk_behind journal.old)) }
+    ensures keeps { OnOk result (ImportsOn D.Disk.seen D.Disk.may_leave D.Disk.is_clean journal.old import.old.added journal.new import.new.added) }
+    ensures empty { OnOk result (Carries import.new.added.round []) }
+    ensures clean { OnOk result (D.Disk.is_clean (disk_behind journal.new) ≡ D.Disk.is_clean (disk_behind journal.old)) }
     ensures usable { OnOk result (IsTrue (D.Disk.is_usable (disk_behind journal.new))) }
 {
-    match journal.append(&(), &import.round) {
-        Ok(()) => {}
-        Err(error) => return Err(Failure::Unkept(error)),
+    match import.added.append(import.rt.alloc(), journal) {
+        Ok(()) => Ok(()),
+        Err(error) => Err(Failure::Unkept(error)),
     }
-    import.round = Round::new(import.rt.alloc());
-    import.records = 0;
-    Ok(())
+}
+
+// Appends the last round, and counts.
+fn finish<D: Disk>(
+    import: &mut Importer<'_>,
+    journal: &mut Journal<D, ()>,
+) -> Result<Counts, Failure>
+    requires usable { IsTrue (D.Disk.is_usable (disk_behind journal.old)) }
+    ensures imported { IfOk result (EndsImport D.Disk.seen D.Disk.may_leave D.Disk.is_clean journal.old import.old.added journal.new import.new.added) }
+    ensures waiting { import.new.waiting ≡ import.old.waiting }
+    ensures clean { OnOk result (D.Disk.is_clean (disk_behind journal.new) ≡ D.Disk.is_clean (disk_behind journal.old)) }
+{
+    match import
+        .added
+        .finish(import.rt.alloc(), journal, import.left_out)
+    {
+        Ok(counts) => Ok(counts),
+        Err(error) => Err(Failure::Unkept(error)),
+    }
 }
 
 impl<'a> Importer<'a> {
     // Of nothing yet, into stores whose file is this one.
-    fn over(rt: &'a HostRuntime, opened: Opened, own: Metadata) -> Importer<'a> {
+    fn over(rt: &'a HostRuntime, opened: Opened, own: Metadata) -> Importer<'a>
+        ensures opened { result.added.opened ≡ opened }
+        ensures empty { Carries result.added.round [] }
+        ensures none { (result.added.files ≡ 0) × (result.added.folders ≡ 0) }
+    {
         Importer {
             rt,
             progress: Progress::new(rt),
             own,
-            opened,
-            round: Round::new(rt.alloc()),
-            records: 0,
+            added: Additions::over(rt.alloc(), opened),
             waiting: Vec::new(rt.alloc()),
-            files: 0,
-            folders: 0,
             bytes: 0,
             left_out: 0,
         }
-    }
-
-    // Tells how much was imported. Whether nothing was left out.
-    fn tell_end<O: Write + Drop>(&self, output: &mut BufWriter<O>) -> Result<bool, Failure> {
-        let files = self.files;
-        let folders = self.folders;
-        let left_out = self.left_out;
-        writeln!(
-            output,
-            "imported: {files} files, {folders} folders, {left_out} left out"
-        )?;
-        Ok(left_out == 0)
     }
 
     // What is known of a file or a folder. None where it is left out: a link, a special file, and the stores' own file.
@@ -282,7 +323,9 @@ impl<'a> Importer<'a> {
         &mut self,
         found: &Found,
         output: &mut BufWriter<O>,
-    ) -> Result<Option<Metadata>, Failure> {
+    ) -> Result<Option<Metadata>, Failure>
+        ensures same { self.new.added ≡ self.old.added }
+    {
         let meta = match fs::symlink_metadata(self.rt, found.place.as_str()) {
             Ok(meta) => meta,
             Err(error) if error.kind() == ErrorKind::InvalidFilename => {
@@ -309,10 +352,11 @@ impl<'a> Importer<'a> {
         found: &Found,
         meta: &Metadata,
         output: &mut BufWriter<O>,
-    ) -> Result<(), Failure> {
+    ) -> Result<(), Failure>
+        ensures goes_on { OnOk result (AddsOn self.old.added self.new.added) }
+    {
         match self.add(found, None, meta)? {
-            Ok(()) => self.folders = self.folders.saturating_add(1),
-            Err(Unimported::Folder) => {}
+            Ok(()) | Err(Unimported::Folder) => {}
             Err(why) => return self.refuse(found, why, output),
         }
         self.enter(found, output)
@@ -323,15 +367,20 @@ impl<'a> Importer<'a> {
         found: &Found,
         meta: &Metadata,
         output: &mut BufWriter<O>,
-    ) -> Result<(), Failure> {
+    ) -> Result<(), Failure>
+        ensures goes_on { OnOk result (AddsOn self.old.added self.new.added) }
+    {
         // So that what stands there already is not read in vain.
-        if let Err(why) = check_free(&self.opened.stores, &found.path, self.opened.last) {
+        if let Err(why) = check_free(
+            &self.added.opened.stores,
+            &found.path,
+            self.added.opened.last,
+        ) {
             return self.refuse(found, why, output);
         }
         let bytes = bytes_of(self.rt, found.place.as_str(), meta)?;
         match self.add(found, Some(bytes), meta)? {
             Ok(()) => {
-                self.files = self.files.saturating_add(1);
                 self.bytes = self.bytes.saturating_add(meta.len());
                 Ok(())
             }
@@ -345,24 +394,17 @@ impl<'a> Importer<'a> {
         found: &Found,
         content: Option<Bytes>,
         meta: &Metadata,
-    ) -> Result<Result<(), Unimported>, Failure> {
+    ) -> Result<Result<(), Unimported>, Failure>
+        ensures goes_on { OnOk result (AddsOn self.old.added self.new.added) }
+    {
         let entry = Entry {
             path: found.path.clone()?,
             content,
             modified: time_of(meta),
         };
         let clock = now(self.rt)?;
-        match add(
-            self.rt.alloc(),
-            &mut self.opened,
-            &mut self.round,
-            &entry,
-            clock,
-        ) {
-            Ok(()) => {
-                self.records = self.records.saturating_add(1);
-                Ok(Ok(()))
-            }
+        match self.added.add(self.rt.alloc(), &entry, clock) {
+            Ok(()) => Ok(Ok(())),
             Err(Unimported::OutOfMemory | Unimported::Unfinished) => Err(AllocError.into()),
             Err(why) => Ok(Err(why)),
         }
@@ -373,7 +415,9 @@ impl<'a> Importer<'a> {
         &mut self,
         folder: &Found,
         output: &mut BufWriter<O>,
-    ) -> Result<(), Failure> {
+    ) -> Result<(), Failure>
+        ensures same { self.new.added ≡ self.old.added }
+    {
         let names = names_of(self.rt, folder.place.as_str())?;
         for name in &names {
             self.wait_for(folder, name, output)?;
@@ -386,7 +430,9 @@ impl<'a> Importer<'a> {
         folder: &Found,
         name: &[u8],
         output: &mut BufWriter<O>,
-    ) -> Result<(), Failure> {
+    ) -> Result<(), Failure>
+        ensures same { self.new.added ≡ self.old.added }
+    {
         let alloc = self.rt.alloc();
         let child = folder.path.child(name);
         if let Err(ParseError::OutOfMemory) = child {
@@ -409,7 +455,9 @@ impl<'a> Importer<'a> {
         found: &Found,
         why: Unimported,
         output: &mut BufWriter<O>,
-    ) -> Result<(), Failure> {
+    ) -> Result<(), Failure>
+        ensures same { self.new.added ≡ self.old.added }
+    {
         let text = match why {
             Unimported::File => "a file stands there",
             Unimported::Folder => "a folder stands there",
@@ -426,7 +474,9 @@ impl<'a> Importer<'a> {
         found: &Found,
         why: &str,
         output: &mut BufWriter<O>,
-    ) -> Result<(), Failure> {
+    ) -> Result<(), Failure>
+        ensures same { self.new.added ≡ self.old.added }
+    {
         let told = told_path(self.rt.alloc(), &found.path)?;
         self.tell(told.as_str(), why, output)
     }
@@ -436,17 +486,21 @@ impl<'a> Importer<'a> {
         told: &str,
         why: &str,
         output: &mut BufWriter<O>,
-    ) -> Result<(), Failure> {
+    ) -> Result<(), Failure>
+        ensures same { self.new.added ≡ self.old.added }
+    {
         self.left_out = self.left_out.saturating_add(1);
         writeln!(output, "{told}: {why}")?;
         Ok(())
     }
 
-    fn tell_progress(&mut self) {
+    fn tell_progress(&mut self)
+        ensures same { self.new.added ≡ self.old.added }
+    {
         if !self.progress.is_due() {
             return;
         }
-        let files = self.files;
+        let files = self.added.files;
         let read = self.bytes / MEGABYTE;
         if let Ok(text) = format!(in self.rt.alloc(); "importing: {files} files, {read} MB") {
             self.progress.tell(text.as_str());

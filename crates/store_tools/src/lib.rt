@@ -2,7 +2,9 @@
 #![tactic(auto)]
 
 mod adding;
+mod additions;
 mod choices;
+mod earlier;
 mod ending;
 mod entries;
 mod exporting;

@@ -1,7 +1,9 @@
 //! What is told of a file that was read to its end, and done with it.
 use crate::choices::Purpose;
+use crate::earlier::{Reach, look_until};
 use crate::exporting::export;
 use crate::inputs::input;
+use dav_guarded_core::fs::Moment;
 use std::io::{self, BufWriter, Write};
 use store_files::{Opening, Uncompacted, Unwatched, make_store};
 use store_views::{
@@ -18,6 +20,38 @@ pub fn look_at<O: Write + Drop>(
 ) -> Result<bool, Failure> {
     let seen = see(rt, path, asked)?;
     do_with(rt, path, &seen, asked, output)
+}
+
+/// Exports what stood in the file at a moment, or tells why that is not to be had. Whether nothing was left out.
+pub fn export_at<O: Write + Drop>(
+    rt: &HostRuntime,
+    path: &str,
+    folder: &str,
+    moment: Moment,
+    output: &mut BufWriter<O>,
+) -> Result<bool, Failure> {
+    match look_until(rt.alloc(), input(rt, path)?, moment)? {
+        Reach::New => {
+            tell_new(output)?;
+            Ok(true)
+        }
+        Reach::Records(records, header) => {
+            let front = read_front(rt.alloc(), input(rt, path)?, records)?;
+            if front.header != header {
+                return Err(Failure::Changed(String::from_str(rt.alloc(), path)?));
+            }
+            export(rt, &front.opened.stores, folder, output)
+        }
+        Reach::From(first) => {
+            let first = first.0;
+            writeln!(output, "its records go back to moment {first}")?;
+            Ok(false)
+        }
+        Reach::Broken(broken) => {
+            tell_broken(&broken, output)?;
+            Ok(false)
+        }
+    }
 }
 
 // What stands in the file. Before an export it is told how much of it was read.

@@ -362,7 +362,7 @@ fn read_all<D: Disk, B, W: Watch>(
     requires usable { IsTrue (D.Disk.is_usable (disk_behind journal.old)) }
     ensures usable { IsTrue (D.Disk.is_usable (disk_behind journal.new)) }
     // A file that had no whole header is not taken for a store.
-    ensures empty { found.now ≡ None → IsErr result }
+    ensures empty { found ≡ None → IsErr result }
 {
     let Some(mut reader) = found else {
         return Err(Stopped::Empty(String::from_str(rt.alloc(), path)?));

@@ -3,18 +3,16 @@ use Rattle.std.proofs.Common.{◌≡◌, ◌≤◌, ◌+◌, ℕ, Bool, Result, 
 use Rattle.journal_core.specs.declared.header.Header.{Header}
 use Rattle.journal_core.specs.declared.journal.Journal.{Journal}
 use Rattle.journal_core.specs.declared.round.Round.{Round}
-use Rattle.journal_core.specs.Format.{Lies, StandsFor}
 use Rattle.journal_core.specs.Resting.{Carries, IsSettled, disk_behind, header_in}
 use Rattle.journal_core.proofs.Records.{none_left}
 use Rattle.dav_guarded_core.specs.Stores.{Stores}
 use Rattle.dav_notes_core.specs.Noting.{Noted}
 use Rattle.dav_store_core.specs.StandingFor.{AreRecords, StandFor}
-use Rattle.dav_store_core.specs.Loading.{IsLoaded}
 use Rattle.store_tools.specs.declared.additions.Additions.{Additions}
 use Rattle.store_tools.specs.declared.additions.Counts.{Counts}
 use Rattle.store_tools.specs.Adding.{IsAdded, StaysLive}
 use Rattle.store_tools.specs.ImportedEntries.{Source, notes_for}
-use Rattle.store_tools.specs.KeptImports.{AddsOn, HasAdded, IsImported, IsImportedInto, IsImportingInto, ImportsOn, EndsImport, StandsButLocks, count_of}
+use Rattle.store_tools.specs.KeptImports.{AddsOn, HasAdded, IsImportedInto, IsImportingInto, ImportsOn, EndsImport, StandsButLocks, count_of}
 use Rattle.store_tools.proofs.ImportLemmas.{imports_appended, imports_begin, imports_left, imports_more, imports_stand}
 
 -- there are as many records as requests
@@ -47,21 +45,9 @@ adds_none a a' live round none = λ base from made h. record {
   counted = omega (arith, none, h.counted);
 }
 
--- the same additions
-pub goes_same : (a a' : Additions) → a' ≡ a → AddsOn a a'
-goes_same a a' same = λ base from made h. subst (λ (b : Additions). HasAdded base from made b) (sym same) h
-
 -- ---- in a journal
 
 module _ {D B : Type 0} (seen : D → List ℕ) (may_leave : D → List ℕ → Type 0) (is_clean : D → Bool) where
-  -- nothing is appended
-  pub keeps_on : (j : Journal D B) (a a' : Additions) → AddsOn a a' → ImportsOn seen may_leave is_clean j a j a'
-  keeps_on j a a' on = λ records base from i. record { made = i.made; settled = i.settled; added = on base from i.made i.added }
-
-  -- one behind another
-  pub keeps_then : (j k l : Journal D B) (a b c : Additions) → ImportsOn seen may_leave is_clean j a k b → ImportsOn seen may_leave is_clean k b l c → ImportsOn seen may_leave is_clean j a l c
-  keeps_then j k l a b c one two = λ records base from i. two records base from (one records base from i)
-
   -- the records that an append adds
   pub settled_more : (j j' : Journal D B) (records made waiting : List (List ℕ)) (round : Round) → IsSettled seen may_leave is_clean j (records ++ made) → Carries round waiting
       → ((old new : List (List ℕ)) → IsSettled seen may_leave is_clean j old → Carries round new → IsSettled seen may_leave is_clean j' (old ++ new))
@@ -100,41 +86,3 @@ module _ {D B : Type 0} (seen : D → List ℕ) (may_leave : D → List ℕ → 
         stand = λ header stood. subst (λ (l : List (List ℕ)). StandsButLocks header (records ++ l) a.opened.stores a.opened.last.0) made
             (imports_stand base a.opened.stores from a.opened.last.0 i.made (Carries a.round) (Carries a.round) h header records stood);
       }
-
-  -- additions to stores that were loaded
-  pub keeps_none : (j : Journal D B) (records : List (List ℕ)) (a : Additions) → IsSettled seen may_leave is_clean j records → Carries a.round [] → a.files + a.folders ≡ 0
-      → IsImportingInto seen may_leave is_clean j records a.opened.stores a.opened.last.0 a
-  keeps_none j records a settled empty none =
-      let importing = imports_begin a.opened.stores a.opened.last.0 (Carries a.round) empty in
-      record {
-        made = [];
-        settled = subst (λ (l : List (List ℕ)). IsSettled seen may_leave is_clean j l) (sym (append-nil records)) settled;
-        added = record { importing = importing; counted = omega (arith, none) };
-      }
-
-  -- what stood in a file that was read
-  pub stood_for : (j : Journal D B) (file : List ℕ) (h : Header) (records : List (List ℕ)) → IsSettled seen may_leave is_clean j records → header_in j ≡ h → seen (disk_behind j) ≡ file → StandsFor h file records
-  stood_for j file h records settled header same =
-      let lies = subst (λ (g : Header). Lies g file settled.rounds) header (subst (λ (bytes : List ℕ). Lies (header_in j) bytes settled.rounds) same settled.lies) in
-      inr (settled.rounds, lies, settled.same)
-
-  -- an import into a file that was read
-  pub imported_into : (j j' : Journal D B) (file : List ℕ) (h : Header) (a a' : Additions) (c : Counts) → IsLoaded seen may_leave is_clean j h a.opened.stores a.opened.last.0 → header_in j ≡ h → seen (disk_behind j) ≡ file
-      → Carries a.round [] → a.files + a.folders ≡ 0 → EndsImport seen may_leave is_clean j a j' a' c → IsImported seen may_leave is_clean file j' h (count_of c)
-  imported_into j j' file h a a' c loaded header same empty none whole = record {
-    records = loaded.records;
-    base = a.opened.stores;
-    from = a.opened.last.0;
-    had = stood_for j file h loaded.records loaded.settled header same;
-    stood = loaded.stand;
-    stores = a'.opened.stores;
-    last = a'.opened.last.0;
-    imported = whole.1 loaded.records a.opened.stores a.opened.last.0 (keeps_none j loaded.records a loaded.settled empty none);
-  }
-
--- ---- results
-
--- two facts of a result
-pub if_ok_and : {T E : Type 0} (r : Result T E) (P : T → Type 0) (Q : Type 0) (R : T → Type 0) → ((x : T) → P x → Q → R x) → IfOk r P → OnOk r Q → IfOk r R
-if_ok_and (Ok x) P Q R join p q = join x p q
-if_ok_and (Err e) P Q R join p q = tt

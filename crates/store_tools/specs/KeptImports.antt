@@ -2,7 +2,6 @@
 use Rattle.std.specs.Prelude.{ℕ, ◌≡◌, ◌+◌, ◌≤◌, List, [], ◌++◌, length, Bool}
 use Rattle.journal_core.specs.declared.header.Header.{Header}
 use Rattle.journal_core.specs.declared.journal.Journal.{Journal}
-use Rattle.journal_core.specs.Format.{StandsFor}
 use Rattle.journal_core.specs.Resting.{Carries, IsSettled}
 use Rattle.dav_guarded_core.specs.Stores.{Stores}
 use Rattle.dav_notes_core.specs.Stepping.{SameLiveStores}
@@ -50,14 +49,3 @@ module _ {D B : Type 0} (seen : D → List ℕ) (may_leave : D → List ℕ → 
   abbrev pub EndsImport : Journal D B → Additions → Journal D B → Additions → Counts → Type 0
   EndsImport j a j' a' c = Carries a'.round []
       × ((records : List (List ℕ)) (base : Stores) (from : ℕ) → IsImportingInto j records base from a → IsImportedInto j' records base from a'.opened.stores a'.opened.last.0 (count_of c))
-
-  -- A file had records that stand for stores. The journal has them, and at least so many behind them that were made of entries; all are on the disk, and they stand for stores, but for locks that have expired.
-  pub record IsImported (file : List ℕ) (j : Journal D B) (h : Header) (count : ℕ) : Type 0 where
-    pub records : List (List ℕ)
-    pub base : Stores
-    pub from : ℕ
-    pub had : StandsFor h file records
-    pub stood : StandFor h records base from
-    pub stores : Stores
-    pub last : ℕ
-    pub imported : IsImportedInto j records base from stores last count

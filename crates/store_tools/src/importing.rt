@@ -1,10 +1,6 @@
 //! Importing: what stands in a folder of the system is put into the stores of a file.
-ghost use Rattle.std.specs.Prelude.{◌≡◌, [], IfOk, IsTrue, OnOk};
-ghost use Rattle.sqlite_disk.specs.Disk.{Only};
-ghost use Rattle.journal_core.specs.JournalReading.{header_of};
-ghost use Rattle.journal_core.specs.Resting.{Carries, IsBeingRead, disk_behind, header_in};
-ghost use Rattle.dav_store_core.specs.Loading.{IsLoaded};
-ghost use Rattle.store_tools.specs.KeptImports.{AddsOn, IsImported, ImportsOn, EndsImport, count_of};
+ghost use Rattle.std.specs.Prelude.{IsTrue, OnOk};
+ghost use Rattle.journal_core.specs.Resting.{disk_behind};
 
 use crate::adding::{Unimported, check_free};
 use crate::additions::{Additions, BYTES, Counts};
@@ -128,11 +124,6 @@ fn import_into<D: Disk, O: Write + Drop>(
     output: &mut BufWriter<O>,
 ) -> Result<Counts, Failure>
     requires usable { IsTrue (D.Disk.is_usable (disk_behind journal.old)) }
-    // The file has the records that it had, and one for each file and folder that is counted, unless a read of the disk lied.
-    ensures imported { IfOk result (λ counts. IsBeingRead D.Disk.seen D.Disk.is_clean journal.old reader.old []
-        → IsTrue (D.Disk.is_clean (disk_behind journal.new))
-        → Only (D.Disk.seen (disk_behind journal.old)) (D.Disk.may_leave (disk_behind journal.old))
-        → IsImported D.Disk.seen D.Disk.may_leave D.Disk.is_clean (D.Disk.seen (disk_behind journal.old)) journal.new (header_of reader.old) (count_of counts)) }
 {
     let own = fs::metadata(rt, path)?;
     let opened = read_all(rt, path, journal, reader)?;
@@ -167,9 +158,6 @@ fn import_from<D: Disk, O: Write + Drop>(
     output: &mut BufWriter<O>,
 ) -> Result<Counts, Failure>
     requires usable { IsTrue (D.Disk.is_usable (disk_behind journal.old)) }
-    ensures imported { IfOk result (EndsImport D.Disk.seen D.Disk.may_leave D.Disk.is_clean journal.old importer.old.added journal.new importer.new.added) }
-    ensures all { OnOk result (importer.new.waiting.items ≡ []) }
-    ensures clean { OnOk result (D.Disk.is_clean (disk_behind journal.new) ≡ D.Disk.is_clean (disk_behind journal.old)) }
 {
     importer.enter(source, output)?;
     let imported = import_all(importer, journal, output);
@@ -186,12 +174,6 @@ pub(crate) fn read_all<D: Disk>(
 ) -> Result<Opened, StoreError>
     requires usable { IsTrue (D.Disk.is_usable (disk_behind journal.old)) }
     // As `load` says it.
-    ensures stands { IfOk result (λ o. IsBeingRead D.Disk.seen D.Disk.is_clean journal.old reader.old []
-        → IsTrue (D.Disk.is_clean (disk_behind journal.new))
-        → Only (D.Disk.seen (disk_behind journal.old)) (D.Disk.may_leave (disk_behind journal.old))
-        → IsLoaded D.Disk.seen D.Disk.may_leave D.Disk.is_clean journal.new (header_of reader.old) o.stores o.last.0) }
-    ensures header { OnOk result (IsBeingRead D.Disk.seen D.Disk.is_clean journal.old reader.old [] → header_in journal.new ≡ header_of reader.old) }
-    ensures seen { D.Disk.seen (disk_behind journal.new) ≡ D.Disk.seen (disk_behind journal.old) }
     ensures usable { IsTrue (D.Disk.is_usable (disk_behind journal.new)) }
 {
     let mut opening = Opening::of(rt, path);
@@ -207,9 +189,6 @@ fn import_all<D: Disk, O: Write + Drop>(
     output: &mut BufWriter<O>,
 ) -> Result<Counts, Failure>
     requires usable { IsTrue (D.Disk.is_usable (disk_behind journal.old)) }
-    ensures imported { IfOk result (EndsImport D.Disk.seen D.Disk.may_leave D.Disk.is_clean journal.old import.old.added journal.new import.new.added) }
-    ensures all { OnOk result (import.new.waiting.items ≡ []) }
-    ensures clean { OnOk result (D.Disk.is_clean (disk_behind journal.new) ≡ D.Disk.is_clean (disk_behind journal.old)) }
 {
     // A loop is proved to end, so this one counts its turns.
     'importing: for _ in 0..u64::MAX {
@@ -230,8 +209,6 @@ fn import_one<D: Disk, O: Write + Drop>(
     output: &mut BufWriter<O>,
 ) -> Result<(), Failure>
     requires usable { IsTrue (D.Disk.is_usable (disk_behind journal.old)) }
-    ensures keeps { OnOk result (ImportsOn D.Disk.seen D.Disk.may_leave D.Disk.is_clean journal.old import.old.added journal.new import.new.added) }
-    ensures clean { OnOk result (D.Disk.is_clean (disk_behind journal.new) ≡ D.Disk.is_clean (disk_behind journal.old)) }
     ensures usable { OnOk result (IsTrue (D.Disk.is_usable (disk_behind journal.new))) }
 {
     let Some(meta) = import.look_at(found, output)? else {
@@ -253,8 +230,6 @@ fn import_found<D: Disk, O: Write + Drop>(
     output: &mut BufWriter<O>,
 ) -> Result<(), Failure>
     requires usable { IsTrue (D.Disk.is_usable (disk_behind journal.old)) }
-    ensures keeps { OnOk result (ImportsOn D.Disk.seen D.Disk.may_leave D.Disk.is_clean journal.old import.old.added journal.new import.new.added) }
-    ensures clean { OnOk result (D.Disk.is_clean (disk_behind journal.new) ≡ D.Disk.is_clean (disk_behind journal.old)) }
     ensures usable { OnOk result (IsTrue (D.Disk.is_usable (disk_behind journal.new))) }
 {
     if meta.is_dir() {
@@ -270,9 +245,6 @@ fn import_found<D: Disk, O: Write + Drop>(
 // Appends the round, which is on the disk at `Ok`, and begins the next.
 fn append<D: Disk>(import: &mut Importer<'_>, journal: &mut Journal<D, ()>) -> Result<(), Failure>
     requires usable { IsTrue (D.Disk.is_usable (disk_behind journal.old)) }
-    ensures keeps { OnOk result (ImportsOn D.Disk.seen D.Disk.may_leave D.Disk.is_clean journal.old import.old.added journal.new import.new.added) }
-    ensures empty { OnOk result (Carries import.new.added.round []) }
-    ensures clean { OnOk result (D.Disk.is_clean (disk_behind journal.new) ≡ D.Disk.is_clean (disk_behind journal.old)) }
     ensures usable { OnOk result (IsTrue (D.Disk.is_usable (disk_behind journal.new))) }
 {
     match import.added.append(import.rt.alloc(), journal) {
@@ -287,9 +259,6 @@ fn finish<D: Disk>(
     journal: &mut Journal<D, ()>,
 ) -> Result<Counts, Failure>
     requires usable { IsTrue (D.Disk.is_usable (disk_behind journal.old)) }
-    ensures imported { IfOk result (EndsImport D.Disk.seen D.Disk.may_leave D.Disk.is_clean journal.old import.old.added journal.new import.new.added) }
-    ensures waiting { import.new.waiting ≡ import.old.waiting }
-    ensures clean { OnOk result (D.Disk.is_clean (disk_behind journal.new) ≡ D.Disk.is_clean (disk_behind journal.old)) }
 {
     match import
         .added
@@ -302,11 +271,7 @@ fn finish<D: Disk>(
 
 impl<'a> Importer<'a> {
     // Of nothing yet, into stores whose file is this one.
-    fn over(rt: &'a HostRuntime, opened: Opened, own: Metadata) -> Importer<'a>
-        ensures opened { result.added.opened ≡ opened }
-        ensures empty { Carries result.added.round [] }
-        ensures none { (result.added.files ≡ 0) × (result.added.folders ≡ 0) }
-    {
+    fn over(rt: &'a HostRuntime, opened: Opened, own: Metadata) -> Importer<'a> {
         Importer {
             rt,
             progress: Progress::new(rt),
@@ -323,9 +288,7 @@ impl<'a> Importer<'a> {
         &mut self,
         found: &Found,
         output: &mut BufWriter<O>,
-    ) -> Result<Option<Metadata>, Failure>
-        ensures same { self.new.added ≡ self.old.added }
-    {
+    ) -> Result<Option<Metadata>, Failure> {
         let meta = match fs::symlink_metadata(self.rt, found.place.as_str()) {
             Ok(meta) => meta,
             Err(error) if error.kind() == ErrorKind::InvalidFilename => {
@@ -352,9 +315,7 @@ impl<'a> Importer<'a> {
         found: &Found,
         meta: &Metadata,
         output: &mut BufWriter<O>,
-    ) -> Result<(), Failure>
-        ensures goes_on { OnOk result (AddsOn self.old.added self.new.added) }
-    {
+    ) -> Result<(), Failure> {
         match self.add(found, None, meta)? {
             Ok(()) | Err(Unimported::Folder) => {}
             Err(why) => return self.refuse(found, why, output),
@@ -367,9 +328,7 @@ impl<'a> Importer<'a> {
         found: &Found,
         meta: &Metadata,
         output: &mut BufWriter<O>,
-    ) -> Result<(), Failure>
-        ensures goes_on { OnOk result (AddsOn self.old.added self.new.added) }
-    {
+    ) -> Result<(), Failure> {
         // So that what stands there already is not read in vain.
         if let Err(why) = check_free(
             &self.added.opened.stores,
@@ -394,9 +353,7 @@ impl<'a> Importer<'a> {
         found: &Found,
         content: Option<Bytes>,
         meta: &Metadata,
-    ) -> Result<Result<(), Unimported>, Failure>
-        ensures goes_on { OnOk result (AddsOn self.old.added self.new.added) }
-    {
+    ) -> Result<Result<(), Unimported>, Failure> {
         let entry = Entry {
             path: found.path.clone()?,
             content,
@@ -415,9 +372,7 @@ impl<'a> Importer<'a> {
         &mut self,
         folder: &Found,
         output: &mut BufWriter<O>,
-    ) -> Result<(), Failure>
-        ensures same { self.new.added ≡ self.old.added }
-    {
+    ) -> Result<(), Failure> {
         let names = names_of(self.rt, folder.place.as_str())?;
         for name in &names {
             self.wait_for(folder, name, output)?;
@@ -430,9 +385,7 @@ impl<'a> Importer<'a> {
         folder: &Found,
         name: &[u8],
         output: &mut BufWriter<O>,
-    ) -> Result<(), Failure>
-        ensures same { self.new.added ≡ self.old.added }
-    {
+    ) -> Result<(), Failure> {
         let alloc = self.rt.alloc();
         let child = folder.path.child(name);
         if let Err(ParseError::OutOfMemory) = child {
@@ -455,9 +408,7 @@ impl<'a> Importer<'a> {
         found: &Found,
         why: Unimported,
         output: &mut BufWriter<O>,
-    ) -> Result<(), Failure>
-        ensures same { self.new.added ≡ self.old.added }
-    {
+    ) -> Result<(), Failure> {
         let text = match why {
             Unimported::File => "a file stands there",
             Unimported::Folder => "a folder stands there",
@@ -474,9 +425,7 @@ impl<'a> Importer<'a> {
         found: &Found,
         why: &str,
         output: &mut BufWriter<O>,
-    ) -> Result<(), Failure>
-        ensures same { self.new.added ≡ self.old.added }
-    {
+    ) -> Result<(), Failure> {
         let told = told_path(self.rt.alloc(), &found.path)?;
         self.tell(told.as_str(), why, output)
     }
@@ -486,17 +435,13 @@ impl<'a> Importer<'a> {
         told: &str,
         why: &str,
         output: &mut BufWriter<O>,
-    ) -> Result<(), Failure>
-        ensures same { self.new.added ≡ self.old.added }
-    {
+    ) -> Result<(), Failure> {
         self.left_out = self.left_out.saturating_add(1);
         writeln!(output, "{told}: {why}")?;
         Ok(())
     }
 
-    fn tell_progress(&mut self)
-        ensures same { self.new.added ≡ self.old.added }
-    {
+    fn tell_progress(&mut self) {
         if !self.progress.is_due() {
             return;
         }

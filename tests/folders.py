@@ -312,7 +312,7 @@ def earlier(stores, davserve):
         last = whole.rindex(b"shutgate") - 1
         file.write(whole[:last] + bytes([whole[last] ^ 1]) + whole[last + 1 :])
     broken = asked.ask("check")[1]
-    yield "broken behind it", asked.ask("check")[0] == 1 and export(second) == ((0, []), states[second])
+    yield "broken behind it", asked.ask("check")[0] == 1 and export(second + 5) == ((0, []), states[second])
     yield "broken before it", export(third + 5) == ((1, broken), None)
     with open(asked.path, "wb") as file:
         file.write(whole)

@@ -121,8 +121,8 @@ pub fn check_free(stores: &Guarded, path: &DavPath, now: Moment) -> Result<(), U
     }
 }
 
-// Makes the file or the folder.
-fn make(stores: &mut Guarded, note: &Note) -> Result<(), Unimported>
+/// Does what a note asks for: a file or a folder is made, or a lock is ended.
+pub(crate) fn make(stores: &mut Guarded, note: &Note) -> Result<(), Unimported>
     requires { (s : Stream) → Draws (command_of note.now.request.command) note.now.drawn s }
     ensures played { OnOk result (NotePlayed stores.old (note_of note.now) stores.new) }
     ensures left { IfErr result (λ e. LeavesAll e × SameLiveStores note.now.request.now.0 stores.old stores.new) }

@@ -9,13 +9,12 @@ ghost use Rattle.dav_notes_core.specs.Stepping.{Draws};
 ghost use Rattle.dav_notes_core.specs.PlayedNotes.{NotePlayed};
 ghost use Rattle.store_tools.specs.EndedLocks.{IsEnded, ending_note};
 
-use crate::adding::moment_behind;
+use crate::adding::{Unimported, make, moment_behind};
 use dav_effects_core::write;
 use dav_guarded_core::fs::Moment;
-use dav_guarded_core::guarded::{Command, Guarded, Refusal, Request};
+use dav_guarded_core::guarded::{Command, Guarded, Request};
 use dav_locks_core::ls::DavLock;
-use dav_notes_core::notes::{Note, apply_given};
-use dav_path_core::errors::FsError;
+use dav_notes_core::notes::Note;
 use dav_store_core::{Opened, add_record};
 use journal_core::Round;
 use std::alloc::{AllocError, Global};
@@ -128,11 +127,9 @@ fn play(stores: &mut Guarded, note: &Note) -> Result<(), Unended>
     requires { (s : Stream) → Draws (command_of note.now.request.command) note.now.drawn s }
     ensures played { OnOk result (NotePlayed stores.old (note_of note.now) stores.new) }
 {
-    match apply_given(stores, &note.request, [0; 16]) {
-        Ok(_reply) => Ok(()),
-        Err(Refusal::OutOfMemory | Refusal::Fs(FsError::InsufficientStorage)) => {
-            Err(Unended::OutOfMemory)
-        }
-        Err(_refusal) => Err(Unended::NoLock),
+    match make(stores, note) {
+        Ok(()) => Ok(()),
+        Err(Unimported::OutOfMemory) => Err(Unended::OutOfMemory),
+        Err(_why) => Err(Unended::NoLock),
     }
 }

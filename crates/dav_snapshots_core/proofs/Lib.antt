@@ -1,10 +1,13 @@
 pub mod EntryForms
 pub mod HeadLemmas
+pub mod LateLemmas
 pub mod LockForms
+pub mod MappedMaps
 pub mod MetLemmas
 pub mod NamedPaths
 pub mod PutLemmas
 pub mod ReadLemmas
 pub mod RepeatLemmas
 pub mod RestoredPaths
+pub mod SetBackLemmas
 pub mod SnapshotForms

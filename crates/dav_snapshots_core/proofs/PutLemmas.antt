@@ -8,14 +8,14 @@ use Rattle.dav_locks_core.specs.Lock.{Lock}
 use Rattle.dav_snapshots_core.specs.SnapshotText.{entries_text, entry_text, lock_text, locks_text}
 use Rattle.dav_snapshots_core.specs.Snapshots.{SnapshotEntry, snapshot_entry}
 
+-- what is left of a list at the place of one of its members
+pub drop_next : {A : Type 0} (xs : List A) (i : ℕ) (x : A) → i < length xs → x ≡ get_or xs i x → drop i xs ≡ x ∷ drop (i + 1) xs
+drop_next xs i x lt at = drop-cons xs i x lt ∙ ap (λ y. y ∷ drop (suc i) xs) (sym at) ∙ ap (λ k. x ∷ drop k xs) (sym (add-one i))
+
 -- a list at the place of one of its members
 pub split_at : {A : Type 0} (xs : List A) (i : ℕ) (x : A) → i < length xs → x ≡ get_or xs i x → xs ≡ take i xs ++ x ∷ drop (i + 1) xs
 split_at xs i x lt at =
-    let next : drop i xs ≡ x ∷ drop (i + 1) xs = drop_next xs i x lt at in
-    sym (take-append-drop i xs) ∙ ap (λ (l : List _). take i xs ++ l) next
-  where
-    drop_next : {A : Type 0} (xs : List A) (i : ℕ) (x : A) → i < length xs → x ≡ get_or xs i x → drop i xs ≡ x ∷ drop (i + 1) xs
-    drop_next xs i x lt at = drop-cons xs i x lt ∙ ap (λ y. y ∷ drop (suc i) xs) (sym at) ∙ ap (λ k. x ∷ drop k xs) (sym (add-one i))
+    sym (take-append-drop i xs) ∙ ap (λ (l : List _). take i xs ++ l) (drop_next xs i x lt at)
 
 pub take_next : {A : Type 0} (xs : List A) (i : ℕ) (x : A) → i < length xs → x ≡ get_or xs i x → take (i + 1) xs ≡ take i xs ++ x ∷ []
 take_next xs i x lt at = take_more xs i x lt ∙ ap (λ y. take i xs ++ y ∷ []) (sym at)
@@ -28,7 +28,7 @@ module _ {A B : Type 0} (view : A → B) (one : List ℕ → B → List ℕ) (be
       → out ++ all before (map view (drop i xs)) ≡ whole → out' ++ all before' (map view (drop (i + 1) xs)) ≡ whole
   put_more out out' before before' whole xs i x lt at o b so_far =
       let more = all (behind (view x)) (map view (drop (i + 1) xs)) in
-      let left : drop i xs ≡ x ∷ drop (i + 1) xs = drop-cons xs i x lt ∙ ap (λ y. y ∷ drop (suc i) xs) (sym at) ∙ ap (λ k. x ∷ drop k xs) (sym (add-one i)) in
+      let left = drop_next xs i x lt at in
       let next : all before (map view (drop i xs)) ≡ one before (view x) ++ more = ap (λ l. all before (map view l)) left ∙ cons before (view x) (map view (drop (i + 1) xs)) in
       rw (o, b) (append_assoc out (one before (view x)) more ∙ ap (λ (r : List ℕ). out ++ r) (sym next) ∙ so_far)
 

@@ -1,4 +1,5 @@
 pub mod Private
+pub mod SetBack
 pub mod SnapshotReading
 pub mod SnapshotText
 pub mod Snapshots

@@ -1,4 +1,5 @@
 -- Words that private contracts alone name.
 pub mod Heads
+pub mod LateMoments
 pub mod MetPaths
 pub mod ReadSnapshots

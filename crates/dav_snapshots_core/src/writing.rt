@@ -36,8 +36,11 @@ pub fn write(alloc: Global, stores: &Guarded, now: Moment) -> FsResult<Pieces>
     Ok(Pieces { head, bodies })
 }
 
-// All that are lent.
-fn lent_locks<'a>(alloc: Global, locks: MemLsLocks<'a>) -> Result<Vec<&'a DavLock>, AllocError>
+/// All that are lent.
+pub(crate) fn lent_locks<'a>(
+    alloc: Global,
+    locks: MemLsLocks<'a>,
+) -> Result<Vec<&'a DavLock>, AllocError>
     ensures { IfOk result (λ lent. map (λ l. l.now) lent.items ≡ locks.entry) }
 {
     let mut lent = Vec::new(alloc);

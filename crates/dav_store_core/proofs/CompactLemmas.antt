@@ -8,18 +8,18 @@ use Rattle.journal_core.specs.Format.{StandsFor}
 use Rattle.journal_core.specs.Resting.{HasDiskCause, IsSettled, clocked_of, header_in}
 use Rattle.journal_core.proofs.MomentLaws.{leaves_weaker}
 use Rattle.dav_guarded_core.specs.Stores.{Stores}
-use Rattle.dav_snapshots_core.specs.WrittenSnapshots.{IsSnapshot}
+use Rattle.dav_snapshots_core.specs.WrittenSnapshots.{HasPaths, IsSnapshot}
 use Rattle.dav_store_core.specs.Compacting.{HasCompactingCause, IsCompactedOrEmpty, IsMadeAnew}
 use Rattle.dav_store_core.specs.declared.error.StoreError.TheVariants.{Journal as JournalFault}
 use Rattle.dav_store_core.specs.Loading.{IsLoaded}
-use Rattle.dav_store_core.specs.StandingFor.{HaveRecords, StandFor}
-use Rattle.dav_store_core.proofs.SnapshotLemmas.{kept_paths, stand_goes_on}
+use Rattle.dav_store_core.specs.StandingFor.{StandFor}
+use Rattle.dav_store_core.proofs.SnapshotLemmas.{stand_goes_on}
 
-module _ {D B : Type 0} (seen : D → List ℕ) (may_leave : D → List ℕ → Type 0) (is_clean : D → Bool) (j : Journal D B) (s : Stores) (last : ℕ) (made : IsMadeAnew seen may_leave is_clean j) (kept : HaveRecords s last) where
+module _ {D B : Type 0} (seen : D → List ℕ) (may_leave : D → List ℕ → Type 0) (is_clean : D → Bool) (j : Journal D B) (s : Stores) (last : ℕ) (made : IsMadeAnew seen may_leave is_clean j) (paths : HasPaths s.map) where
   -- the snapshot, at any moment
   module _ (bytes : List ℕ) (is : IsSnapshot s last bytes) where
     stands : StandFor (header_in j) (bytes ∷ []) s last
-    stands = stand_goes_on (header_in j) s last bytes made.0 is (kept_paths s last kept)
+    stands = stand_goes_on (header_in j) s last bytes made.0 is paths
 
     pub either : (c : List ℕ) → StandsFor (header_in j) c [] ⊎ StandsFor (header_in j) c ([] ++ bytes ∷ []) → IsCompactedOrEmpty (header_in j) s last c
     either c (inl empty) = inl empty

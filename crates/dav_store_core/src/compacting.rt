@@ -5,11 +5,10 @@ ghost use Rattle.journal_core.specs.declared.error.JournalError.TheVariants.{Out
 ghost use Rattle.journal_core.specs.Clocked.{EachLeaves};
 ghost use Rattle.journal_core.specs.Resting.{Carries, clocked_of, disk_behind, gate_of};
 ghost use Rattle.journal_core.specs.Resting.{header_in, is_ready};
-ghost use Rattle.dav_snapshots_core.specs.WrittenSnapshots.{IsSnapshot};
+ghost use Rattle.dav_snapshots_core.specs.WrittenSnapshots.{HasPaths, IsSnapshot};
 ghost use Rattle.dav_store_core.specs.Compacting.{HasCompactingCause, IsCompactedOrEmpty};
 ghost use Rattle.dav_store_core.specs.Compacting.{IsMadeAnew};
 ghost use Rattle.dav_store_core.specs.Loading.{IsLoaded};
-ghost use Rattle.dav_store_core.specs.StandingFor.{HaveRecords};
 
 use crate::error::StoreError;
 use crate::rounds::add_record;
@@ -32,21 +31,21 @@ pub fn compact<D: Disk, B>(
     note: &B,
 ) -> Result<(), StoreError>
     requires usable { IsTrue (D.Disk.is_usable (disk_behind journal.old)) }
-    // Stores that some records stand for are what the new journal stands for: with each number,
-    // each time and each lock.
+    // Stores whose paths are made of segments, as all have that records stand for, are what the
+    // new journal stands for: with each number, each time and each lock.
     ensures compacted { OnOk result (
-        IsMadeAnew D.Disk.seen D.Disk.may_leave D.Disk.is_clean journal.old → HaveRecords stores.now last.0
+        IsMadeAnew D.Disk.seen D.Disk.may_leave D.Disk.is_clean journal.old → HasPaths stores.now.map
         → IsLoaded D.Disk.seen D.Disk.may_leave D.Disk.is_clean journal.new (header_in journal.old)
         stores.now last.0) }
     // A crash at any moment leaves a file that stands for no records yet, or for these stores,
     ensures any_moment { IsMadeAnew D.Disk.seen D.Disk.may_leave D.Disk.is_clean journal.old
-        → HaveRecords stores.now last.0
+        → HasPaths stores.now.map
         → EachLeaves D.Disk.may_leave note.now
         (IsCompactedOrEmpty (header_in journal.old) stores.now last.0) (clocked_of journal.old)
         (clocked_of journal.new) }
     // and so does one behind it, whatever it answers.
     ensures crash { IsMadeAnew D.Disk.seen D.Disk.may_leave D.Disk.is_clean journal.old
-        → HaveRecords stores.now last.0 → (c : List ℕ) → D.Disk.may_leave (disk_behind journal.new) c
+        → HasPaths stores.now.map → (c : List ℕ) → D.Disk.may_leave (disk_behind journal.new) c
         → IsCompactedOrEmpty (header_in journal.old) stores.now last.0 c }
     ensures header { header_in journal.new ≡ header_in journal.old }
     ensures ready { OnOk result (IsTrue (is_ready journal.new)) }

@@ -404,8 +404,9 @@ fn tell_ahead(rt: &HostRuntime, last: Moment, now: Moment) {
         let seconds = ahead / 1_000_000_000;
         let _told = writeln!(
             rt.stderr(),
-            "the last change of the store is of {}, {seconds} seconds ahead of the clock, which tells {}: no lock expires and no time goes on until then",
+            "the last change of the store is of {}, {seconds} seconds ahead of the clock, which tells {}: no lock expires and no time goes on until then; davstore FILE settle {} sets it back",
             last.0,
+            now.0,
             now.0
         );
     }

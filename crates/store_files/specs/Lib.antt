@@ -1,2 +1,3 @@
+pub mod SetBackStores
 pub mod Tellings
 pub mod WrittenStores

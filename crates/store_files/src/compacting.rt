@@ -4,8 +4,8 @@ ghost use Rattle.sqlite_std_file.specs.File.{file_is_usable};
 ghost use Rattle.journal_core.specs.Resting.{disk_behind, header_in};
 ghost use Rattle.journal_file.specs.JournalFiles.{file_is_clean, file_may_leave, file_seen};
 ghost use Rattle.dav_store_core.specs.Compacting.{IsMadeAnew};
+ghost use Rattle.dav_snapshots_core.specs.WrittenSnapshots.{HasPaths};
 ghost use Rattle.dav_store_core.specs.Loading.{IsLoaded};
-ghost use Rattle.dav_store_core.specs.StandingFor.{HaveRecords};
 ghost use Rattle.store_files.specs.WrittenStores.{IsOnDisk};
 
 use crate::error::Uncompacted;

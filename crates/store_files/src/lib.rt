@@ -9,6 +9,7 @@ mod measuring;
 mod opening;
 mod placing;
 mod progress;
+mod settling;
 
 pub use clock::now;
 pub use compacting::{
@@ -20,3 +21,4 @@ pub use measuring::{is_due, length_of};
 pub use opening::Opening;
 pub use placing::{clear, clear_draft, draft_of, make_like, sync_folder, version_of};
 pub use progress::Progress;
+pub use settling::{settle_file, settle_opened};

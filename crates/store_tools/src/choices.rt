@@ -10,6 +10,8 @@ pub enum What<'a> {
     Log(bool),
     /// It is written anew, as a snapshot of what stands in it.
     Compact,
+    /// Its clock is set back to this moment.
+    Settle(u64),
     /// It is made, where nothing stands.
     New,
     /// What stands in this folder of the system is put into it.
@@ -51,7 +53,7 @@ pub struct Choices<'a> {
 }
 
 impl<'a> Choices<'a> {
-    /// A path, and then `check`; or `list` with a folder or without one; or `locks`; or `unlock` with a token; or `log`, with `--bodies` or without it; or `compact`; or `new`; or `import` or `export` with a folder of the system, this one also with `--at` and a moment; or `salvage` with a file; or
+    /// A path, and then `check`; or `list` with a folder or without one; or `locks`; or `unlock` with a token; or `log`, with `--bodies` or without it; or `compact`; or `settle` with a moment; or `new`; or `import` or `export` with a folder of the system, this one also with `--at` and a moment; or `salvage` with a file; or
     /// `adopt`, with `--yes` or without it; or `follow`, with a number of bytes or without one; or `take`. None where the words are other than that.
     pub fn of(words: &'a [String]) -> Option<Choices<'a>> {
         let (path, rest) = words.split_first()?;
@@ -95,6 +97,7 @@ fn alone<'a>(word: &str) -> Option<What<'a>> {
 fn with<'a>(word: &str, next: &'a str) -> Option<What<'a>> {
     match word {
         "list" => Some(What::Read(Purpose::List(next))),
+        "settle" => Some(What::Settle(number(next)?)),
         "unlock" => Some(What::Unlock(next)),
         "import" => Some(What::Import(next)),
         "export" => Some(What::Read(Purpose::Export(next))),

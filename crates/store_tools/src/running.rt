@@ -8,12 +8,12 @@ use dav_guarded_core::fs::Moment;
 use std::alloc::AllocError;
 use std::env;
 use std::io::{self, BufWriter, ErrorKind, Write};
-use store_files::{Lengths, Naming, Uncompacted, compact_file, make_new, now};
+use store_files::{Lengths, Naming, Uncompacted, compact_file, make_new, now, settle_file};
 use store_views::{Failure, Logged, follow, log, take};
 
 // The words that the program takes.
 const USAGE: &str =
-    "usage: davstore PATH new\n       davstore PATH check\n       davstore PATH list [FOLDER]\n       davstore PATH locks\n       davstore PATH unlock TOKEN\n       davstore PATH log [--bodies]\n       davstore PATH compact\n       davstore PATH import DIR\n       davstore PATH export DIR [--at MOMENT]\n       davstore PATH salvage OUT\n       davstore COPY adopt [--yes]\n       davstore PATH follow [BYTE]\n       davstore COPY take\n";
+    "usage: davstore PATH new\n       davstore PATH check\n       davstore PATH list [FOLDER]\n       davstore PATH locks\n       davstore PATH unlock TOKEN\n       davstore PATH log [--bodies]\n       davstore PATH compact\n       davstore PATH settle MOMENT\n       davstore PATH import DIR\n       davstore PATH export DIR [--at MOMENT]\n       davstore PATH salvage OUT\n       davstore COPY adopt [--yes]\n       davstore PATH follow [BYTE]\n       davstore COPY take\n";
 
 /// Does what the words behind the program's name choose, and tells it (own). The status: 0, or 1 where the file isn't whole, or nothing was there to tell, or not all was done, 2 where the words are not of the program's form, and 3 where a call of the system failed, or there was no memory.
 pub fn run(rt: &HostRuntime) -> u8 {
@@ -77,6 +77,7 @@ fn do_what<O: Write + Drop>(
         What::Read(asked) => look_at(rt, path, asked, output),
         What::Log(bodies) => log_changes(rt, path, bodies, output),
         What::Compact => Ok(compact(rt, path, output)?),
+        What::Settle(from) => Ok(settle(rt, path, Moment(from), output)?),
         What::New => make(rt, path, output),
         What::Import(folder) => import(rt, path, folder, output),
         What::Unlock(token) => unlock(rt, path, token, output),
@@ -137,26 +138,57 @@ fn compact<O: Write + Drop>(
             writeln!(output, "compacted: {before} bytes before, {now} bytes now")?;
             Ok(true)
         }
-        Err(Uncompacted::New) => {
+        Err(error) => tell_unmade(path, error, output),
+    }
+}
+
+// Sets the clock of the stores back, and tells how long the file was and is, or why it stays as it was.
+fn settle<O: Write + Drop>(
+    rt: &HostRuntime,
+    path: &str,
+    from: Moment,
+    output: &mut BufWriter<O>,
+) -> io::Result<bool> {
+    match settle_file(rt, path, from) {
+        Ok(Some(Lengths { before, now })) => {
+            writeln!(output, "settled: {before} bytes before, {now} bytes now")?;
+            Ok(true)
+        }
+        Ok(None) => {
+            writeln!(output, "nothing was changed at that moment or later")?;
+            Ok(true)
+        }
+        Err(error) => tell_unmade(path, error, output),
+    }
+}
+
+// Tells why no file takes the place of the old one, which stays. Whether that is well: where it has no record yet.
+fn tell_unmade<O: Write + Drop>(
+    path: &str,
+    error: Uncompacted,
+    output: &mut BufWriter<O>,
+) -> io::Result<bool> {
+    match error {
+        Uncompacted::New => {
             tell_new(output)?;
             Ok(true)
         }
-        Err(Uncompacted::InTheWay(draft)) => {
+        Uncompacted::InTheWay(draft) => {
             writeln!(output, "in the way: {draft}")?;
             Ok(false)
         }
-        Err(Uncompacted::Replaced) => {
+        Uncompacted::Replaced => {
             writeln!(
                 output,
                 "another file has come to {path} meanwhile, and stays"
             )?;
             Ok(false)
         }
-        Err(Uncompacted::Store(error)) => {
+        Uncompacted::Store(error) => {
             writeln!(output, "{error}")?;
             Ok(false)
         }
-        Err(Uncompacted::Failed(error) | Uncompacted::Unsynced(error)) => Err(error),
+        Uncompacted::Failed(error) | Uncompacted::Unsynced(error) => Err(error),
     }
 }
 

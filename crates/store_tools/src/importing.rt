@@ -16,11 +16,12 @@ use sqlite_std_file::Wary;
 use std::alloc::AllocError;
 use std::fs::{self, Metadata};
 use std::io::{self, BufWriter, ErrorKind, Write};
+use store_copies::Failure;
 use store_files::{
     Opening, Progress, Standing, Uncompacted, end_making, header_of, is_one_file, make_new, now,
     standing_at,
 };
-use store_views::{Failure, told_member, told_path};
+use store_views::{told_member, told_path};
 
 const MEGABYTE: u64 = 1_000_000;
 

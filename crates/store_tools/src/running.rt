@@ -8,8 +8,9 @@ use dav_guarded_core::fs::Moment;
 use std::alloc::AllocError;
 use std::env;
 use std::io::{self, BufWriter, ErrorKind, Write};
+use store_copies::{Failure, follow, take};
 use store_files::{Lengths, Naming, Uncompacted, compact_file, make_new, now};
-use store_views::{Failure, Logged, follow, log, take};
+use store_views::{Logged, log};
 
 // The words that the program takes.
 const USAGE: &str =

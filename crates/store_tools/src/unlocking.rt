@@ -10,8 +10,8 @@ use sqlite_disk::Disk;
 use sqlite_std_file::Wary;
 use std::alloc::AllocError;
 use std::io::{self, BufWriter, ErrorKind, Write};
+use store_copies::Failure;
 use store_files::{Standing, end_making, header_of, now, standing_at};
-use store_views::Failure;
 
 /// Ends the lock with this token in the stores of the file at this path (own), and tells so; else why not. Whether it was ended: its record is on the disk then.
 ///

@@ -3,8 +3,6 @@ ghost use Rattle.std.specs.Prelude.{◌≡◌, Ok, true, false, IsTrue};
 ghost use Rattle.journal_copies.specs.DiskLooks.{LooksAt, disk_in};
 ghost use Rattle.store_views.specs.Adopted.{IsAdopted};
 
-use crate::behind::Tail;
-use crate::failures::Failure;
 use crate::looking::Broken;
 use dav_store_core::StoreError;
 use journal_copies::{Looking, find_break, shut};
@@ -15,6 +13,7 @@ use sqlite_std_file::Wary;
 use std::alloc::Global;
 use std::fs::File;
 use std::io::{BufRead, BufReader, BufWriter, Write};
+use store_copies::{Failure, Tail};
 
 // How many bytes are read at once.
 const BUFFER: usize = 64 * 1024;

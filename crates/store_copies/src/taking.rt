@@ -4,7 +4,7 @@ ghost use Rattle.sqlite_std_file.specs.File.{file_is_usable};
 ghost use Rattle.journal_core.specs.Format.{records_text};
 ghost use Rattle.journal_core.specs.Resting.{IsSettled, disk_behind};
 ghost use Rattle.journal_file.specs.JournalFiles.{file_is_clean, file_may_leave, file_seen};
-ghost use Rattle.store_views.specs.TakenRounds.{AddsRound, HasInFront, HasRoundAlone};
+ghost use Rattle.store_copies.specs.TakenRounds.{AddsRound, HasInFront, HasRoundAlone};
 
 use crate::behind::records_of;
 use crate::failures::Failure;

@@ -1,8 +1,8 @@
 //! Serving with stores that a file keeps.
-ghost use Rattle.std.specs.Prelude.{◌≡◌, None, true, IsErr, IsTrue, IfOk, IfSome};
+ghost use Rattle.std.specs.Prelude.{◌≡◌, if◌then◌else◌, None, Some, IsErr, IsTrue, IfOk, IfSome};
 ghost use Rattle.sqlite_std_file.specs.File.{file_is_usable};
 ghost use Rattle.journal_core.specs.Resting.{disk_behind, is_ready};
-ghost use Rattle.store_files.specs.declared.making.Standing.TheVariants.{Empty, Nothing};
+ghost use Rattle.store_files.specs.FoundStores.{MayBeOpened};
 
 use crate::clock::first_moment;
 use crate::fronts::Fronts;
@@ -26,8 +26,8 @@ use sqlite_std_file::{FileFrom, Start, Wary};
 use std::alloc::{AllocError, Global};
 use std::io::{Read, Write};
 use store_files::{
-    Anew, Compacted, Naming, Opening, Standing, Uncompacted, clear_draft, compact_opened,
-    end_making, header_of, is_due, length_of, make_new, standing_at, version_of,
+    Anew, Compacted, Naming, Opening, Stood, Uncompacted, clear_draft, compact_opened,
+    find_or_make, header_of, is_due, length_of, version_of,
 };
 use turn_fronts::ReadOnly;
 
@@ -82,31 +82,30 @@ pub(crate) fn serve_stored<R: Rng + Drop, C: Clock + Drop, I: Read, O: Write>(
 
 // The file stands there. It is made where nothing does, unless it has to be there; that is told.
 fn stand(rt: &HostRuntime, path: &str, existing: bool, now: Moment) -> Result<(), Stopped> {
-    end_making(rt, path).map_err(unmade)?;
-    let standing = standing_at(rt, path).map_err(unmade)?;
-    stand_with(rt, path, standing, existing, now)
+    let stood = find_or_make(rt, path, beginning(existing, now)).map_err(unmade)?;
+    stand_with(rt, path, stood)
 }
 
-// The same, where this stands there.
-fn stand_with(
-    rt: &HostRuntime,
-    path: &str,
-    standing: Standing,
-    existing: bool,
-    now: Moment,
-) -> Result<(), Stopped>
-    ensures empty { standing ≡ Empty → IsErr result }
-    ensures missing { standing ≡ Nothing → existing ≡ true → IsErr result }
+// When a store begins that is made where nothing stands; none where it has to be there.
+fn beginning(existing: bool, now: Moment) -> Option<u64>
+    ensures { result ≡ (if existing then None else Some now.0) }
 {
-    match standing {
-        Standing::File => Ok(()),
-        Standing::Empty => Err(Stopped::Empty(String::from_str(rt.alloc(), path)?)),
-        Standing::Nothing if existing => Err(Stopped::Missing(String::from_str(rt.alloc(), path)?)),
-        Standing::Nothing => {
-            let naming = make_new(rt, path, now.0).map_err(unmade)?;
+    if existing { None } else { Some(now.0) }
+}
+
+// Whether what came of it may be opened. That a store was made is told.
+fn stand_with(rt: &HostRuntime, path: &str, stood: Stood) -> Result<(), Stopped>
+    ensures stands { IfOk result (λ _. MayBeOpened stood) }
+{
+    match stood {
+        Stood::There => Ok(()),
+        Stood::Made(naming) => {
             tell_new(rt, path, naming);
             Ok(())
         }
+        Stood::Missing => Err(Stopped::Missing(String::from_str(rt.alloc(), path)?)),
+        Stood::Empty => Err(Stopped::Empty(String::from_str(rt.alloc(), path)?)),
+        Stood::Taken(taken) => Err(Stopped::Taken(taken)),
     }
 }
 
@@ -120,7 +119,7 @@ fn tell_new(rt: &HostRuntime, path: &str, naming: Naming) {
     let _told = writeln!(rt.stderr(), "a new store was made: {path}{how}");
 }
 
-// Why the file was not made, or can't be found.
+// Why the file can't be found or made.
 fn unmade(error: Uncompacted) -> Stopped {
     match error {
         Uncompacted::InTheWay(path) => Stopped::Taken(path),

@@ -1,2 +1,3 @@
+pub mod FoundStores
 pub mod Tellings
 pub mod WrittenStores

@@ -1,6 +1,6 @@
 //! The program: it takes the words, does what they choose, and tells how that ended.
 use crate::choices::{Choices, What};
-use crate::importing::{import, unmade};
+use crate::importing::import;
 use crate::inputs::{BUFFER, input};
 use crate::looks::{export_at, look_at, tell_broken, tell_new};
 use crate::unlocking::unlock;
@@ -122,7 +122,7 @@ fn make<O: Write + Drop>(
             writeln!(output, "something stands there: {found}")?;
             return Ok(false);
         }
-        Err(error) => return Err(unmade(error)),
+        Err(error) => return Err(Failure::from(error)),
     }
     Ok(true)
 }

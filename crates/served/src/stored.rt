@@ -45,12 +45,21 @@ pub(crate) struct Keeping<'a> {
     pub(crate) compacting: Compacting,
     /// Whether the file has to be there: none is made then.
     pub(crate) existing: bool,
+    /// The path of the file.
+    pub(crate) path: &'a str,
     /// Where the file is, once it is open.
     pub(crate) place: &'a Place,
 }
 
-/// Serves the connections that the frames are of, with the stores of the file at this path, which keeps
-/// what they change (own). It begins at the moment that is chosen, or else at the system's. Where there is no file it is made, at this moment, unless it has to be there; where too much of it is of no use any more
+// With what a server begins.
+#[derive(Drop)]
+struct Beginning<R, C> {
+    now: Moment,
+    rng: R,
+    clock: C,
+}
+
+/// Serves the connections that the frames are of, with the stores of a file, which keeps what they change (own). It begins at the moment that is chosen, or else at the system's. Where there is no file it is made, at this moment, unless it has to be there; where too much of it is of no use any more
 /// it is compacted first.
 ///
 /// - `Refused`: the file is refused, or could not be made, opened or read. `InTheWay`: beside it stands one that is no store, and has the name of the new file of a compaction. `Missing`: there is none, and it has to be there. `Empty`: it has no whole header. `Taken`: another one came there as it was made.
@@ -58,7 +67,6 @@ pub(crate) struct Keeping<'a> {
 /// - `Unkept`: what was changed could not be kept. `WrongRealm`: the realm can't stand between quotes. `Stream`: a stream failed, or there is no memory, or the system does not tell the moment.
 pub(crate) fn serve_stored<R: Rng + Drop, C: Clock + Drop, I: Read, O: Write>(
     rt: &HostRuntime,
-    path: &str,
     began: Option<u64>,
     fronts: &mut Fronts<'_>,
     streams: &mut Streams<I, O>,
@@ -66,6 +74,7 @@ pub(crate) fn serve_stored<R: Rng + Drop, C: Clock + Drop, I: Read, O: Write>(
     rng: R,
     clock: C,
 ) -> Result<End, Stopped> {
+    let path = keeping.path;
     let now = first_moment(rt, began)?;
     stand(rt, path, keeping.existing, now)?;
     let found = find(rt, path, now, &streams.output, Wary);
@@ -75,19 +84,18 @@ pub(crate) fn serve_stored<R: Rng + Drop, C: Clock + Drop, I: Read, O: Write>(
     let found = found?;
     tell_ahead(rt, found.opened.last, now);
     let made = compacted(rt, path, &found, keeping.compacting, &streams.output, Anew)?;
-    serve_either(
-        rt, path, fronts, keeping, streams, found, made, now, rng, clock,
-    )
+    let beginning = Beginning { now, rng, clock };
+    serve_either(rt, fronts, keeping, streams, found, made, beginning)
 }
 
 // The file stands there. It is made where nothing does, unless it has to be there; that is told.
 fn stand(rt: &HostRuntime, path: &str, existing: bool, now: Moment) -> Result<(), Stopped> {
-    let stood = find_or_make(rt, path, beginning(existing, now)).map_err(unmade)?;
+    let stood = find_or_make(rt, path, moment_of(existing, now)).map_err(unmade)?;
     stand_with(rt, path, stood)
 }
 
 // When a store begins that is made where nothing stands; none where it has to be there.
-fn beginning(existing: bool, now: Moment) -> Option<u64>
+fn moment_of(existing: bool, now: Moment) -> Option<u64>
     ensures { result ≡ (if existing then None else Some now.0) }
 {
     if existing { None } else { Some(now.0) }
@@ -134,15 +142,12 @@ fn unmade(error: Uncompacted) -> Stopped {
 // Serves with the file that was compacted, where one was, and else with the one that was found.
 fn serve_either<R: Rng + Drop, C: Clock + Drop, D: Disk + Drop, S: Start + Drop, I: Read, O: Write>(
     rt: &HostRuntime,
-    path: &str,
     fronts: &mut Fronts<'_>,
     keeping: Keeping<'_>,
     streams: &mut Streams<I, O>,
     found: Found<D, O>,
     made: Option<Compacted<S, O>>,
-    now: Moment,
-    rng: R,
-    clock: C,
+    beginning: Beginning<R, C>,
 ) -> Result<End, Stopped>
     requires found { IsTrue (D.Disk.is_usable (disk_behind found.journal)) }
     requires made { IfSome made (λ made. IsTrue (file_is_usable S.Start (disk_behind made.journal))) }
@@ -163,9 +168,9 @@ fn serve_either<R: Rng + Drop, C: Clock + Drop, D: Disk + Drop, S: Start + Drop,
                 opened: found.opened,
                 used: found.used,
             };
-            serve_found(rt, path, fronts, keeping, streams, anew, now, rng, clock)
+            serve_found(rt, fronts, keeping, streams, anew, beginning)
         }
-        None => serve_found(rt, path, fronts, keeping, streams, found, now, rng, clock),
+        None => serve_found(rt, fronts, keeping, streams, found, beginning),
     }
 }
 
@@ -251,20 +256,18 @@ fn is_useless<D: Disk, B>(alloc: Global, found: &Found<D, B>, compacting: Compac
 // Serves with the stores of a file that is open. It is told here of no disk in particular, so that its check is short.
 fn serve_found<R: Rng + Drop, C: Clock + Drop, D: Disk + Drop, I: Read, O: Write>(
     rt: &HostRuntime,
-    path: &str,
     fronts: &mut Fronts<'_>,
     keeping: Keeping<'_>,
     streams: &mut Streams<I, O>,
     found: Found<D, O>,
-    now: Moment,
-    rng: R,
-    clock: C,
+    beginning: Beginning<R, C>,
 ) -> Result<End, Stopped>
     requires usable { IsTrue (D.Disk.is_usable (disk_behind found.journal)) }
 {
     let Keeping {
         settings,
         sync,
+        path,
         place,
         ..
     } = keeping;
@@ -275,7 +278,7 @@ fn serve_found<R: Rng + Drop, C: Clock + Drop, D: Disk + Drop, I: Read, O: Write
         opened,
         ..
     } = found;
-    let service = server_over(rt.alloc(), settings, opened, now, header, rng, clock)?;
+    let service = server_over(rt.alloc(), settings, opened, header, beginning)?;
     serve_recorded(rt, fronts, sync, streams, service, &mut journal)
 }
 
@@ -315,11 +318,10 @@ fn server_over<R: Rng + Drop, C: Clock + Drop>(
     alloc: Global,
     settings: Settings,
     opened: Opened,
-    now: Moment,
     header: Header,
-    rng: R,
-    clock: C,
+    beginning: Beginning<R, C>,
 ) -> Result<Recorded<R, C>, AllocError> {
+    let Beginning { now, rng, clock } = beginning;
     let first = Moment(now.0.max(opened.last.0));
     let tree = Tree::of(alloc, &opened.stores)?;
     let dav = Dav::new(alloc, settings, opened.stores, rng, first, true);

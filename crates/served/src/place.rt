@@ -5,10 +5,7 @@ use std::cell::{Cell, OnceCell};
 use std::fs::{self, File, Metadata};
 use std::io::{self, ErrorKind, Read};
 use std::os::unix::fs::FileExt;
-use store_files::is_one_file;
-
-// How many bytes a header has.
-const HEADER: usize = 56;
+use store_files::{HEADER, is_one_file};
 
 // A file that was found by its name.
 #[derive(Drop)]

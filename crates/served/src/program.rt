@@ -206,18 +206,10 @@ fn serve_file<R: Rng + Drop, C: Clock + Drop, I: Read + Drop, O: Write + Drop>(
         sync: choices.sync,
         compacting: choices.compacting,
         existing: choices.existing,
+        path,
         place,
     };
-    serve_stored(
-        rt,
-        path,
-        choices.clock,
-        fronts,
-        &mut streams,
-        keeping,
-        rng,
-        clock,
-    )
+    serve_stored(rt, choices.clock, fronts, &mut streams, keeping, rng, clock)
 }
 
 fn serve_memory<R: Rng + Drop, C: Clock + Drop, I: Read + Drop, O: Write + Drop>(

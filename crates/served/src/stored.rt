@@ -1,8 +1,8 @@
 //! Serving with stores that a file keeps.
-ghost use Rattle.std.specs.Prelude.{◌≡◌, None, true, IsErr, IsTrue, IfOk, IfSome};
+ghost use Rattle.std.specs.Prelude.{◌≡◌, if◌then◌else◌, None, Some, IsErr, IsTrue, IfOk, IfSome};
 ghost use Rattle.sqlite_std_file.specs.File.{file_is_usable};
 ghost use Rattle.journal_core.specs.Resting.{disk_behind, is_ready};
-ghost use Rattle.store_files.specs.declared.making.Standing.TheVariants.{Empty, Nothing};
+ghost use Rattle.store_files.specs.FoundStores.{MayBeOpened};
 
 use crate::clock::first_moment;
 use crate::fronts::Fronts;
@@ -26,8 +26,8 @@ use sqlite_std_file::{FileFrom, Start, Wary};
 use std::alloc::{AllocError, Global};
 use std::io::{Read, Write};
 use store_files::{
-    Anew, Compacted, Naming, Opening, Standing, Uncompacted, clear_draft, compact_opened,
-    end_making, header_of, is_due, length_of, make_new, standing_at, version_of,
+    Anew, Compacted, Naming, Opening, Stood, Uncompacted, clear_draft, compact_opened,
+    find_or_make, header_of, is_due, length_of, version_of,
 };
 use turn_fronts::ReadOnly;
 
@@ -45,12 +45,21 @@ pub(crate) struct Keeping<'a> {
     pub(crate) compacting: Compacting,
     /// Whether the file has to be there: none is made then.
     pub(crate) existing: bool,
+    /// The path of the file.
+    pub(crate) path: &'a str,
     /// Where the file is, once it is open.
     pub(crate) place: &'a Place,
 }
 
-/// Serves the connections that the frames are of, with the stores of the file at this path, which keeps
-/// what they change (own). It begins at the moment that is chosen, or else at the system's. Where there is no file it is made, at this moment, unless it has to be there; where too much of it is of no use any more
+// With what a server begins.
+#[derive(Drop)]
+struct Beginning<R, C> {
+    now: Moment,
+    rng: R,
+    clock: C,
+}
+
+/// Serves the connections that the frames are of, with the stores of a file, which keeps what they change (own). It begins at the moment that is chosen, or else at the system's. Where there is no file it is made, at this moment, unless it has to be there; where too much of it is of no use any more
 /// it is compacted first.
 ///
 /// - `Refused`: the file is refused, or could not be made, opened or read. `InTheWay`: beside it stands one that is no store, and has the name of the new file of a compaction. `Missing`: there is none, and it has to be there. `Empty`: it has no whole header. `Taken`: another one came there as it was made.
@@ -58,7 +67,6 @@ pub(crate) struct Keeping<'a> {
 /// - `Unkept`: what was changed could not be kept. `WrongRealm`: the realm can't stand between quotes. `Stream`: a stream failed, or there is no memory, or the system does not tell the moment.
 pub(crate) fn serve_stored<R: Rng + Drop, C: Clock + Drop, I: Read, O: Write>(
     rt: &HostRuntime,
-    path: &str,
     began: Option<u64>,
     fronts: &mut Fronts<'_>,
     streams: &mut Streams<I, O>,
@@ -66,6 +74,7 @@ pub(crate) fn serve_stored<R: Rng + Drop, C: Clock + Drop, I: Read, O: Write>(
     rng: R,
     clock: C,
 ) -> Result<End, Stopped> {
+    let path = keeping.path;
     let now = first_moment(rt, began)?;
     stand(rt, path, keeping.existing, now)?;
     let found = find(rt, path, now, &streams.output, Wary);
@@ -75,38 +84,36 @@ pub(crate) fn serve_stored<R: Rng + Drop, C: Clock + Drop, I: Read, O: Write>(
     let found = found?;
     tell_ahead(rt, found.opened.last, now);
     let made = compacted(rt, path, &found, keeping.compacting, &streams.output, Anew)?;
-    serve_either(
-        rt, path, fronts, keeping, streams, found, made, now, rng, clock,
-    )
+    let beginning = Beginning { now, rng, clock };
+    serve_either(rt, fronts, keeping, streams, found, made, beginning)
 }
 
 // The file stands there. It is made where nothing does, unless it has to be there; that is told.
 fn stand(rt: &HostRuntime, path: &str, existing: bool, now: Moment) -> Result<(), Stopped> {
-    end_making(rt, path).map_err(unmade)?;
-    let standing = standing_at(rt, path).map_err(unmade)?;
-    stand_with(rt, path, standing, existing, now)
+    let stood = find_or_make(rt, path, moment_of(existing, now)).map_err(unmade)?;
+    stand_with(rt, path, stood)
 }
 
-// The same, where this stands there.
-fn stand_with(
-    rt: &HostRuntime,
-    path: &str,
-    standing: Standing,
-    existing: bool,
-    now: Moment,
-) -> Result<(), Stopped>
-    ensures empty { standing ≡ Empty → IsErr result }
-    ensures missing { standing ≡ Nothing → existing ≡ true → IsErr result }
+// When a store begins that is made where nothing stands; none where it has to be there.
+fn moment_of(existing: bool, now: Moment) -> Option<u64>
+    ensures { result ≡ (if existing then None else Some now.0) }
 {
-    match standing {
-        Standing::File => Ok(()),
-        Standing::Empty => Err(Stopped::Empty(String::from_str(rt.alloc(), path)?)),
-        Standing::Nothing if existing => Err(Stopped::Missing(String::from_str(rt.alloc(), path)?)),
-        Standing::Nothing => {
-            let naming = make_new(rt, path, now.0).map_err(unmade)?;
+    if existing { None } else { Some(now.0) }
+}
+
+// Whether what came of it may be opened. That a store was made is told.
+fn stand_with(rt: &HostRuntime, path: &str, stood: Stood) -> Result<(), Stopped>
+    ensures stands { IfOk result (λ _. MayBeOpened stood) }
+{
+    match stood {
+        Stood::There => Ok(()),
+        Stood::Made(naming) => {
             tell_new(rt, path, naming);
             Ok(())
         }
+        Stood::Missing => Err(Stopped::Missing(String::from_str(rt.alloc(), path)?)),
+        Stood::Empty => Err(Stopped::Empty(String::from_str(rt.alloc(), path)?)),
+        Stood::Taken(taken) => Err(Stopped::Taken(taken)),
     }
 }
 
@@ -120,7 +127,7 @@ fn tell_new(rt: &HostRuntime, path: &str, naming: Naming) {
     let _told = writeln!(rt.stderr(), "a new store was made: {path}{how}");
 }
 
-// Why the file was not made, or can't be found.
+// Why the file can't be found or made.
 fn unmade(error: Uncompacted) -> Stopped {
     match error {
         Uncompacted::InTheWay(path) => Stopped::Taken(path),
@@ -135,15 +142,12 @@ fn unmade(error: Uncompacted) -> Stopped {
 // Serves with the file that was compacted, where one was, and else with the one that was found.
 fn serve_either<R: Rng + Drop, C: Clock + Drop, D: Disk + Drop, S: Start + Drop, I: Read, O: Write>(
     rt: &HostRuntime,
-    path: &str,
     fronts: &mut Fronts<'_>,
     keeping: Keeping<'_>,
     streams: &mut Streams<I, O>,
     found: Found<D, O>,
     made: Option<Compacted<S, O>>,
-    now: Moment,
-    rng: R,
-    clock: C,
+    beginning: Beginning<R, C>,
 ) -> Result<End, Stopped>
     requires found { IsTrue (D.Disk.is_usable (disk_behind found.journal)) }
     requires made { IfSome made (λ made. IsTrue (file_is_usable S.Start (disk_behind made.journal))) }
@@ -164,9 +168,9 @@ fn serve_either<R: Rng + Drop, C: Clock + Drop, D: Disk + Drop, S: Start + Drop,
                 opened: found.opened,
                 used: found.used,
             };
-            serve_found(rt, path, fronts, keeping, streams, anew, now, rng, clock)
+            serve_found(rt, fronts, keeping, streams, anew, beginning)
         }
-        None => serve_found(rt, path, fronts, keeping, streams, found, now, rng, clock),
+        None => serve_found(rt, fronts, keeping, streams, found, beginning),
     }
 }
 
@@ -252,20 +256,18 @@ fn is_useless<D: Disk, B>(alloc: Global, found: &Found<D, B>, compacting: Compac
 // Serves with the stores of a file that is open. It is told here of no disk in particular, so that its check is short.
 fn serve_found<R: Rng + Drop, C: Clock + Drop, D: Disk + Drop, I: Read, O: Write>(
     rt: &HostRuntime,
-    path: &str,
     fronts: &mut Fronts<'_>,
     keeping: Keeping<'_>,
     streams: &mut Streams<I, O>,
     found: Found<D, O>,
-    now: Moment,
-    rng: R,
-    clock: C,
+    beginning: Beginning<R, C>,
 ) -> Result<End, Stopped>
     requires usable { IsTrue (D.Disk.is_usable (disk_behind found.journal)) }
 {
     let Keeping {
         settings,
         sync,
+        path,
         place,
         ..
     } = keeping;
@@ -276,7 +278,7 @@ fn serve_found<R: Rng + Drop, C: Clock + Drop, D: Disk + Drop, I: Read, O: Write
         opened,
         ..
     } = found;
-    let service = server_over(rt.alloc(), settings, opened, now, header, rng, clock)?;
+    let service = server_over(rt.alloc(), settings, opened, header, beginning)?;
     serve_recorded(rt, fronts, sync, streams, service, &mut journal)
 }
 
@@ -316,11 +318,10 @@ fn server_over<R: Rng + Drop, C: Clock + Drop>(
     alloc: Global,
     settings: Settings,
     opened: Opened,
-    now: Moment,
     header: Header,
-    rng: R,
-    clock: C,
+    beginning: Beginning<R, C>,
 ) -> Result<Recorded<R, C>, AllocError> {
+    let Beginning { now, rng, clock } = beginning;
     let first = Moment(now.0.max(opened.last.0));
     let tree = Tree::of(alloc, &opened.stores)?;
     let dav = Dav::new(alloc, settings, opened.stores, rng, first, true);

@@ -1,3 +1,4 @@
+pub mod FoundStores
 pub mod SetBackStores
 pub mod Tellings
 pub mod WrittenStores

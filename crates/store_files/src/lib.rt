@@ -16,9 +16,11 @@ pub use compacting::{
     Anew, Compacted, Lengths, Unwatched, compact_file, compact_opened, header_of, make_store,
 };
 pub use error::Uncompacted;
-pub use making::{Naming, Standing, end_making, is_one_file, make_new, standing_at};
+pub use making::{Naming, Stood, find_or_make, has_name, is_one_file, make_new};
 pub use measuring::{is_due, length_of};
 pub use opening::Opening;
-pub use placing::{clear, clear_draft, draft_of, make_like, sync_folder, version_of};
+pub use placing::{
+    HEADER, clear, clear_draft, draft_of, header_at, make_like, sync_folder, version_of,
+};
 pub use progress::Progress;
 pub use settling::{settle_file, settle_opened};

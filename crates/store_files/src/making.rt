@@ -1,5 +1,6 @@
 //! A new store: it is made as a draft, and has its name once its header is on the disk.
-ghost use Rattle.std.specs.Prelude.{[], false};
+ghost use Rattle.std.specs.Prelude.{◌≡◌, ◌≢◌, [], false, None, IsSome, IfOk};
+ghost use Rattle.store_files.specs.FoundStores.{ComesOf, IsOfMaking};
 ghost use Rattle.store_files.specs.WrittenStores.{HasHeader};
 
 use crate::compacting::{Anew, header_of, remove_unmade};
@@ -23,9 +24,24 @@ pub enum Naming {
     Direct,
 }
 
-/// What stands at the path of a store (own).
+/// What came of it that a store is to stand at a path (own).
+#[derive(Drop)]
+pub enum Stood {
+    /// A file stands there that may be opened: a store, or what is refused then.
+    There,
+    /// A store was made there.
+    Made(Naming),
+    /// Nothing stands there, and none was to be made.
+    Missing,
+    /// A file stands there that has no whole header yet, and so no record.
+    Empty,
+    /// At this path something stood in the way as one was made. It stays.
+    Taken(String),
+}
+
+/// What stands at the path of a store.
 #[derive(Clone, Copy, PartialEq, Eq)]
-pub enum Standing {
+pub(crate) enum Standing {
     /// Nothing.
     Nothing,
     /// A file that has no whole header yet, and so no record.
@@ -34,8 +50,54 @@ pub enum Standing {
     File,
 }
 
-/// What stands at this path (own). `Err` where the system can't tell, or there is no memory.
-pub fn standing_at(rt: &HostRuntime, path: &str) -> Result<Standing, Uncompacted> {
+/// Finds the store at this path, behind what a crash has left of its making, which is ended (own). Where nothing stands there one is made, as `make_new` makes it, that begins at this moment, if one is given.
+///
+/// - `Failed`: a call of the system failed, or there is no memory. `Store`: what stands there with two names is no store, or a new one could not be made.
+pub fn find_or_make(rt: &HostRuntime, path: &str, began: Option<u64>) -> Result<Stood, Uncompacted>
+    // Where one may be made none is missing, and where none may be made none is.
+    ensures sought { IsSome began → IfOk result (λ stood. stood ≢ Stood.Missing) }
+    ensures kept { began ≡ None → IfOk result (λ stood. ¬ IsOfMaking stood) }
+{
+    end_making(rt, path)?;
+    let standing = standing_at(rt, path)?;
+    make_where(rt, path, standing, began)
+}
+
+// The same, where this stands there.
+fn make_where(
+    rt: &HostRuntime,
+    path: &str,
+    standing: Standing,
+    began: Option<u64>,
+) -> Result<Stood, Uncompacted>
+    ensures comes { ComesOf standing began result }
+    ensures sought { IsSome began → IfOk result (λ stood. stood ≢ Stood.Missing) }
+    ensures kept { began ≡ None → IfOk result (λ stood. ¬ IsOfMaking stood) }
+{
+    match standing {
+        Standing::File => Ok(Stood::There),
+        Standing::Empty => Ok(Stood::Empty),
+        Standing::Nothing => match began {
+            Some(began) => make_found(rt, path, began),
+            None => Ok(Stood::Missing),
+        },
+    }
+}
+
+// Makes a store; or something is in the way.
+fn make_found(rt: &HostRuntime, path: &str, began: u64) -> Result<Stood, Uncompacted>
+    ensures made { IfOk result IsOfMaking }
+    ensures sought { IfOk result (λ stood. stood ≢ Stood.Missing) }
+{
+    match make_new(rt, path, began) {
+        Ok(naming) => Ok(Stood::Made(naming)),
+        Err(Uncompacted::InTheWay(found)) => Ok(Stood::Taken(found)),
+        Err(error) => Err(error),
+    }
+}
+
+// What stands at this path. `Err` where the system can't tell, or there is no memory.
+fn standing_at(rt: &HostRuntime, path: &str) -> Result<Standing, Uncompacted> {
     match fs::metadata(rt, path) {
         Ok(found) if found.is_file() => {}
         Ok(_) => return Ok(Standing::File),
@@ -73,11 +135,10 @@ pub fn make_new(rt: &HostRuntime, path: &str, began: u64) -> Result<Naming, Unco
     }
 }
 
-/// Ends what a crash has left of `make_new` at this path: where the store there has its draft's name, too, that
-/// name is removed, and the folder is synced (own). Nothing else is touched.
-///
-/// - `Failed`: a call of the system failed, or there is no memory. `Store`: what stands there is no store.
-pub fn end_making(rt: &HostRuntime, path: &str) -> Result<(), Uncompacted> {
+// Ends what a crash has left of `make_new` at this path: where the store there has its draft's name, too, that name is removed, and the folder is synced. Nothing else is touched.
+//
+// - `Failed`: a call of the system failed, or there is no memory. `Store`: what stands there is no store.
+fn end_making(rt: &HostRuntime, path: &str) -> Result<(), Uncompacted> {
     let found = match fs::metadata(rt, path) {
         Ok(found) if found.is_file() && found.nlink() > 1 => found,
         _ => return Ok(()),
@@ -87,8 +148,8 @@ pub fn end_making(rt: &HostRuntime, path: &str) -> Result<(), Uncompacted> {
     };
     let real = fs::canonicalize(rt, path)?;
     let draft = draft_of(rt, real.as_str(), header.key, header.generation)?;
-    match fs::symlink_metadata(rt, draft.as_str()) {
-        Ok(other) if is_one_file(&found, &other) => {
+    match has_name(rt, draft.as_str(), &found) {
+        Ok(true) => {
             fs::remove_file(rt, draft.as_str())?;
             clear_log(rt, draft.as_str())?;
             Ok(sync_folder(rt, real.as_str())?)
@@ -100,6 +161,15 @@ pub fn end_making(rt: &HostRuntime, path: &str) -> Result<(), Uncompacted> {
 /// Whether this is one file by two names (own).
 pub fn is_one_file(one: &Metadata, other: &Metadata) -> bool {
     one.dev() == other.dev() && one.ino() == other.ino()
+}
+
+/// Whether this file has this name (own); false where nothing has it. `Err` where the system can't tell.
+pub fn has_name(rt: &HostRuntime, path: &str, file: &Metadata) -> io::Result<bool> {
+    match fs::symlink_metadata(rt, path) {
+        Ok(found) => Ok(is_one_file(&found, file)),
+        Err(error) if error.kind() == ErrorKind::NotFound => Ok(false),
+        Err(error) => Err(error),
+    }
 }
 
 /// What is supposed of a file that is made under its name: it has no byte.

@@ -14,8 +14,11 @@ use std::path::PathBuf;
 /// Who may read and write the draft until it has the old one's owner and mode: who makes it.
 const MODE: u32 = 0o600;
 
+/// How many bytes a header has, and so where the first gate is (own).
+pub const HEADER: usize = 56;
+
 /// How many bytes a draft may have of which no header can be read: those of a header, and of the gate behind it.
-const UNBEGUN: u64 = 64;
+const UNBEGUN: u64 = HEADER as u64 + 8;
 
 /// At which byte the version stands in a header.
 const VERSION: u64 = 8;
@@ -67,9 +70,10 @@ pub(crate) fn is_new(rt: &HostRuntime, path: &str) -> Result<bool, Uncompacted> 
     Ok(found.is_none())
 }
 
-// The header of the file; none where it has none yet. `Store` where it is no store.
-pub(crate) fn header_at(rt: &HostRuntime, path: &str) -> Result<Option<Header>, Uncompacted> {
-    let mut source = Stream::new(fs::open(rt, path)?);
+/// The header of the file at this path (own); none where it has none yet. An error where it is no store, or nothing stands there, or another call of the system failed.
+pub fn header_at(rt: &HostRuntime, path: &str) -> Result<Option<Header>, JournalError> {
+    let file = fs::open(rt, path).map_err(JournalError::Failed)?;
+    let mut source = Stream::new(file);
     match Reader::begin(rt.alloc(), &mut source, &())? {
         Some(reader) => Ok(Some(reader.header())),
         None => Ok(None),
@@ -110,12 +114,8 @@ fn is_draft(
     began: u64,
     generation: u64,
 ) -> Result<bool, Uncompacted> {
-    let mut source = Stream::new(fs::open(rt, path)?);
-    match Reader::begin(rt.alloc(), &mut source, &()) {
-        Ok(Some(reader)) => {
-            let header = reader.header();
-            Ok(header.began == began && header.generation == generation)
-        }
+    match header_at(rt, path) {
+        Ok(Some(header)) => Ok(header.began == began && header.generation == generation),
         Ok(None) | Err(JournalError::Foreign | JournalError::Damaged(_)) => Ok(false),
         Err(error) => Err(error.into()),
     }

@@ -10,8 +10,9 @@ use std::collections::BTreeMap;
 use std::fs::{self, File, OpenOptions};
 use std::io::{self, BufWriter, ErrorKind, Write};
 use std::time::{Duration, SystemTime, UNIX_EPOCH};
+use store_copies::Failure;
 use store_files::{Progress, sync_folder};
-use store_views::{Failure, Paths};
+use store_views::Paths;
 
 // An export in work.
 #[derive(Drop)]

@@ -1,6 +1,7 @@
 //! Importing: what stands in a folder of the system is put into the stores of a file.
-ghost use Rattle.std.specs.Prelude.{IsTrue, OnOk};
+ghost use Rattle.std.specs.Prelude.{◌≡◌, Ok, true, IsTrue, OnOk};
 ghost use Rattle.journal_core.specs.Resting.{disk_behind};
+ghost use Rattle.store_files.specs.FoundStores.{MayBeOpened};
 
 use crate::adding::{Unimported, check_free};
 use crate::additions::{Additions, BYTES, Counts};
@@ -16,11 +17,9 @@ use sqlite_std_file::Wary;
 use std::alloc::AllocError;
 use std::fs::{self, Metadata};
 use std::io::{self, BufWriter, ErrorKind, Write};
-use store_files::{
-    Opening, Progress, Standing, Uncompacted, end_making, header_of, is_one_file, make_new, now,
-    standing_at,
-};
-use store_views::{Failure, told_member, told_path};
+use store_copies::Failure;
+use store_files::{Opening, Progress, Stood, find_or_make, header_of, is_one_file, now};
+use store_views::{told_member, told_path};
 
 const MEGABYTE: u64 = 1_000_000;
 
@@ -52,7 +51,7 @@ pub fn import<O: Write + Drop>(
     output: &mut BufWriter<O>,
 ) -> Result<bool, Failure> {
     let source = source_of(rt, folder)?;
-    if !stand(rt, path, output)? {
+    if !stand(rt, path, Some(now(rt)?.0), output)? {
         return Ok(false);
     }
     let header = header_of(rt, 0, now(rt)?.0)?;
@@ -67,28 +66,37 @@ pub fn import<O: Write + Drop>(
     Ok(counts.tell(output)? && is_there)
 }
 
-// Whether a file stands there that may be opened. It is made where nothing does.
-fn stand<O: Write + Drop>(
+/// Whether a file stands there that may be opened; else why not is told. Where nothing stands there one is made that begins at this moment, if one is given, and else that is an error.
+pub(crate) fn stand<O: Write + Drop>(
     rt: &HostRuntime,
     path: &str,
+    began: Option<u64>,
     output: &mut BufWriter<O>,
 ) -> Result<bool, Failure> {
-    end_making(rt, path).map_err(unmade)?;
-    match standing_at(rt, path).map_err(unmade)? {
-        Standing::File => return Ok(true),
-        Standing::Empty => {
+    let stood = find_or_make(rt, path, began)?;
+    tell_stood(path, &stood, output)
+}
+
+// Whether what came of it may be opened.
+fn tell_stood<O: Write + Drop>(
+    path: &str,
+    stood: &Stood,
+    output: &mut BufWriter<O>,
+) -> Result<bool, Failure>
+    ensures stands { result ≡ Ok true → MayBeOpened stood.now }
+{
+    match stood {
+        Stood::There => Ok(true),
+        Stood::Made(_) => Ok(true),
+        Stood::Empty => {
             tell_empty(path, output)?;
-            return Ok(false);
+            Ok(false)
         }
-        Standing::Nothing => {}
-    }
-    match make_new(rt, path, now(rt)?.0) {
-        Ok(_naming) => Ok(true),
-        Err(Uncompacted::InTheWay(found)) => {
+        Stood::Taken(found) => {
             writeln!(output, "something stands there: {found}")?;
             Ok(false)
         }
-        Err(error) => Err(unmade(error)),
+        Stood::Missing => Err(Failure::from(io::Error::from(ErrorKind::NotFound))),
     }
 }
 
@@ -98,20 +106,6 @@ pub(crate) fn tell_empty<O: Write + Drop>(path: &str, output: &mut BufWriter<O>)
         output,
         "{path} is empty: nothing was ever kept in it, so remove it to have a new one"
     )
-}
-
-/// Why a file is not made, or can't be found.
-pub fn unmade(error: Uncompacted) -> Failure {
-    match error {
-        Uncompacted::Store(error) => Failure::from(error),
-        Uncompacted::Failed(error) | Uncompacted::Unsynced(error) => Failure::from(error),
-        Uncompacted::InTheWay(path) => {
-            Failure::At(path, io::Error::from(ErrorKind::AlreadyExists))
-        }
-        Uncompacted::New | Uncompacted::Replaced => {
-            Failure::from(io::Error::from(ErrorKind::AlreadyExists))
-        }
-    }
 }
 
 // Puts what stands in the folder into the stores that the journal keeps. At `Ok` all of it is on the disk.

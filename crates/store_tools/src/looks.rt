@@ -5,10 +5,11 @@ use crate::exporting::export;
 use crate::inputs::input;
 use dav_guarded_core::fs::Moment;
 use std::io::{self, BufWriter, Write};
+use store_copies::{Failure, Found, Tail, round_behind};
 use store_files::{Opening, Uncompacted, Unwatched, make_store};
 use store_views::{
-    Broken, Failure, Found, Front, Seen, Tail, Whole, adopt, end_of, header_of, is_wanted,
-    later_in, list, list_locks, look, read_front, round_behind, tell_later,
+    Broken, Front, Seen, Whole, adopt, end_of, header_of, is_wanted, later_in, list, list_locks,
+    look, read_front, tell_later,
 };
 
 /// Reads the file to its end, and does what is asked. Whether it is whole, and something is there to tell, and all was done.

@@ -1,6 +1,6 @@
 //! The program: it takes the words, does what they choose, and tells how that ended.
 use crate::choices::{Choices, What};
-use crate::importing::{import, unmade};
+use crate::importing::import;
 use crate::inputs::{BUFFER, input};
 use crate::looks::{export_at, look_at, tell_broken, tell_new};
 use crate::unlocking::unlock;
@@ -8,8 +8,9 @@ use dav_guarded_core::fs::Moment;
 use std::alloc::AllocError;
 use std::env;
 use std::io::{self, BufWriter, ErrorKind, Write};
+use store_copies::{Failure, follow, take};
 use store_files::{Lengths, Naming, Uncompacted, compact_file, make_new, now, settle_file};
-use store_views::{Failure, Logged, follow, log, take};
+use store_views::{Logged, log};
 
 // The words that the program takes.
 const USAGE: &str =
@@ -122,7 +123,7 @@ fn make<O: Write + Drop>(
             writeln!(output, "something stands there: {found}")?;
             return Ok(false);
         }
-        Err(error) => return Err(unmade(error)),
+        Err(error) => return Err(Failure::from(error)),
     }
     Ok(true)
 }

@@ -7,8 +7,8 @@ use std::fs::{self, File, Files, Metadata};
 use std::io::{self, BufRead, BufReader, ErrorKind, Read};
 use std::os::unix::fs::MetadataExt;
 use std::time::UNIX_EPOCH;
+use store_copies::Failure;
 use store_files::is_one_file;
-use store_views::Failure;
 
 // How many bytes of names are read at once; the system hands out none where one does not fit.
 const NAMES: usize = 64 * 1024;

@@ -3,15 +3,15 @@ ghost use Rattle.std.specs.Prelude.{IsTrue};
 ghost use Rattle.journal_core.specs.Resting.{disk_behind};
 
 use crate::ending::{Unended, end_lock};
-use crate::importing::{read_all, tell_empty, unmade};
+use crate::importing::{read_all, stand, tell_empty};
 use journal_core::{Journal, Reader, Round};
 use journal_file::open;
 use sqlite_disk::Disk;
 use sqlite_std_file::Wary;
 use std::alloc::AllocError;
-use std::io::{self, BufWriter, ErrorKind, Write};
-use store_files::{Standing, end_making, header_of, now, standing_at};
-use store_views::Failure;
+use std::io::{BufWriter, Write};
+use store_copies::Failure;
+use store_files::{header_of, now};
 
 /// Ends the lock with this token in the stores of the file at this path (own), and tells so; else why not. Whether it was ended: its record is on the disk then.
 ///
@@ -23,14 +23,8 @@ pub fn unlock<O: Write + Drop>(
     token: &str,
     output: &mut BufWriter<O>,
 ) -> Result<bool, Failure> {
-    end_making(rt, path).map_err(unmade)?;
-    match standing_at(rt, path).map_err(unmade)? {
-        Standing::File => {}
-        Standing::Empty => {
-            tell_empty(path, output)?;
-            return Ok(false);
-        }
-        Standing::Nothing => return Err(Failure::from(io::Error::from(ErrorKind::NotFound))),
+    if !stand(rt, path, None, output)? {
+        return Ok(false);
     }
     let header = header_of(rt, 0, 0)?;
     let (mut journal, found) = open(rt, path, header, &(), Wary)?;

@@ -1,2 +1,1 @@
 pub mod Adopted
-pub mod TakenRounds

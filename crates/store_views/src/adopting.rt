@@ -3,18 +3,17 @@ ghost use Rattle.std.specs.Prelude.{◌≡◌, Ok, true, false, IsTrue};
 ghost use Rattle.journal_copies.specs.DiskLooks.{LooksAt, disk_in};
 ghost use Rattle.store_views.specs.Adopted.{IsAdopted};
 
-use crate::behind::Tail;
-use crate::failures::Failure;
 use crate::looking::Broken;
 use dav_store_core::StoreError;
 use journal_copies::{Looking, find_break, shut};
-use journal_core::{Clocked, Header, JournalError, Reader, Stream};
+use journal_core::{Clocked, Header, JournalError};
 use journal_file::open_file;
 use sqlite_disk::Disk;
 use sqlite_std_file::Wary;
 use std::alloc::Global;
-use std::fs::File;
 use std::io::{BufRead, BufReader, BufWriter, Write};
+use store_copies::{Failure, Tail};
+use store_files::header_at;
 
 // How many bytes are read at once.
 const BUFFER: usize = 64 * 1024;
@@ -70,10 +69,8 @@ fn is_at_gate(error: &StoreError, place: u64) -> bool {
 
 /// The header of the file at this path (own); none where it has none.
 pub fn header_of(rt: &HostRuntime, path: &str) -> Result<Option<Header>, Failure> {
-    let mut source = Stream::new(File::open(rt, path)?);
-    match Reader::begin(rt.alloc(), &mut source, &()) {
-        Ok(Some(reader)) => Ok(Some(reader.header())),
-        Ok(None) => Ok(None),
+    match header_at(rt, path) {
+        Ok(found) => Ok(found),
         Err(JournalError::Foreign | JournalError::Unsupported | JournalError::Damaged(_)) => Ok(
             None,
         ),

@@ -1,5 +1,4 @@
 //! What whole rounds behind a place where a file is broken name.
-use crate::behind::Tail;
 use crate::paths::told_path;
 use dav_effects_core::{RecordError, read};
 use dav_guarded_core::guarded::Command;
@@ -7,6 +6,7 @@ use dav_path_core::davpath::DavPath;
 use journal_core::split_record;
 use std::alloc::{AllocError, Global};
 use std::io::{self, BufWriter, Write};
+use store_copies::Tail;
 
 /// What whole rounds have (own).
 #[derive(Drop)]

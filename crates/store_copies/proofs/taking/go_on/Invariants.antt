@@ -1,6 +1,6 @@
 use Rattle.std.proofs.Common.{IsTrue}
 use Rattle.journal_core.specs.Resting.{disk_behind}
-use Rattle.store_views.proofs.taking.go_on.Given as goal
+use Rattle.store_copies.proofs.taking.go_on.Given as goal
 
 -- the file may be written
 abbrev pub invariant-taking : goal.invariant-taking

@@ -2,6 +2,10 @@
 use std::fs::File;
 use std::io::{self, Read};
 use std::os::unix::fs::FileExt;
+use store_files::HEADER;
+
+/// Where the first gate of a file is: behind its header.
+pub const FIRST_GATE: u64 = HEADER as u64;
 
 /// A file, read from one byte on. Where the reader of a file that grows has come to its end, it reads on later.
 #[derive(Drop)]

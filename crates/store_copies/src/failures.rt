@@ -3,6 +3,7 @@ use dav_store_core::StoreError;
 use journal_core::JournalError;
 use std::alloc::AllocError;
 use std::io::{self, ErrorKind};
+use store_files::Uncompacted;
 
 /// Why work with a file of stores ends before it has told or done all (own).
 #[derive(Drop)]
@@ -47,6 +48,21 @@ impl From<StoreError> for Failure {
 impl From<JournalError> for Failure {
     fn from(error: JournalError) -> Failure {
         Failure::from(StoreError::Journal(error))
+    }
+}
+
+impl From<Uncompacted> for Failure {
+    fn from(error: Uncompacted) -> Failure {
+        match error {
+            Uncompacted::Store(error) => Failure::from(error),
+            Uncompacted::Failed(error) | Uncompacted::Unsynced(error) => Failure::from(error),
+            Uncompacted::InTheWay(path) => {
+                Failure::At(path, io::Error::from(ErrorKind::AlreadyExists))
+            }
+            Uncompacted::New | Uncompacted::Replaced => {
+                Failure::from(io::Error::from(ErrorKind::AlreadyExists))
+            }
+        }
     }
 }
 

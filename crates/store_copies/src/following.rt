@@ -1,20 +1,17 @@
 //! Following: the rounds of a store are written to a stream as they come.
 use crate::failures::Failure;
-use crate::placed::{Placed, read_word};
+use crate::placed::{FIRST_GATE, Placed, read_word};
 use journal_copies::read_round;
 use journal_core::{Header, JournalError, Reader, Stream};
 use std::alloc::Global;
 use std::fs::{self, File, Metadata};
 use std::io::{self, BufWriter, ErrorKind, Read, Write};
-use std::os::unix::fs::MetadataExt;
 use std::thread::sleep;
 use std::time::Duration;
+use store_files::is_one_file;
 
 // How long it rests where nothing has come, in milliseconds.
 const PAUSE: u64 = 50;
-
-// How many bytes a header has, and so where the first gate is.
-const HEADER: u64 = 56;
 
 // A file that is followed.
 #[derive(Drop)]
@@ -75,7 +72,7 @@ fn open(rt: &HostRuntime, path: &str) -> Result<Option<Followed>, Failure> {
             found,
             header: reader.header(),
             front,
-            place: HEADER,
+            place: FIRST_GATE,
         })),
         None => Ok(None),
     }
@@ -84,7 +81,9 @@ fn open(rt: &HostRuntime, path: &str) -> Result<Option<Followed>, Failure> {
 // The first bytes of a file, up to the end of a header.
 fn read_front(alloc: Global, file: &File) -> io::Result<Vec<u8>> {
     let mut front = Vec::new(alloc);
-    Placed::new(file, 0).take(HEADER).read_to_end(&mut front)?;
+    Placed::new(file, 0)
+        .take(FIRST_GATE)
+        .read_to_end(&mut front)?;
     Ok(front)
 }
 
@@ -113,7 +112,7 @@ impl Followed {
 
     // Goes to the gate of the round that ends at this byte; whether one does.
     fn go_to(&mut self, byte: u64) -> io::Result<bool> {
-        let mut gate = HEADER;
+        let mut gate = FIRST_GATE;
         for _ in 0..u64::MAX {
             let Some(next) = self.behind(gate)? else {
                 return Ok(false);
@@ -203,7 +202,7 @@ impl Followed {
 // Whether another file stands at the path than this one. Where none stands there, one may come.
 fn is_another(rt: &HostRuntime, path: &str, found: &Metadata) -> io::Result<bool> {
     match fs::metadata(rt, path) {
-        Ok(now) => Ok(now.dev() != found.dev() || now.ino() != found.ino()),
+        Ok(now) => Ok(!is_one_file(&now, found)),
         Err(error) if error.kind() == ErrorKind::NotFound => Ok(false),
         Err(error) => Err(error),
     }

@@ -6,7 +6,7 @@ use Rattle.journal_core.specs.declared.reader.Reader.{Reader}
 use Rattle.journal_core.specs.Format.{records_text}
 use Rattle.journal_core.specs.Resting.{IsBeingRead, disk_behind}
 use Rattle.journal_core.proofs.Records.{records_same}
-use Rattle.store_views.specs.TakenRounds.{HasInFront}
+use Rattle.store_copies.specs.TakenRounds.{HasInFront}
 
 -- the next records of the copy that are read, where they are those of the round
 pub passed : {D B : Type 0} (seen : D → List ℕ) (may_leave : D → List ℕ → Type 0) (is_clean : D → Bool) (j j' : Journal D B) (c : Option Reader) (r r' : Reader) (round text : List ℕ)

@@ -5,16 +5,16 @@ ghost use Rattle.journal_core.specs.Resting.{disk_behind};
 
 use crate::failures::Failure;
 use dav_store_core::StoreError;
-use journal_core::{Header, Journal, JournalError, Reader, Stream};
+use journal_core::{Header, Journal, JournalError, Reader};
 use journal_file::open;
 use sqlite_std_file::{FileFrom, Start};
 use std::alloc::AllocError;
-use std::fs::{self, File, Metadata, OpenOptions, TryLockError};
+use std::fs::{self, File, OpenOptions, TryLockError};
 use std::io::{self, ErrorKind};
 use std::os::unix::fs::{MetadataExt, OpenOptionsExt};
 use std::thread::sleep;
 use std::time::Duration;
-use store_files::sync_folder;
+use store_files::{has_name, header_at, sync_folder};
 
 // Who may read and write a file that is made: its owner alone.
 const MODE: u32 = 0o600;
@@ -36,16 +36,13 @@ pub(crate) fn real_path(rt: &HostRuntime, path: &str) -> Result<String, Failure>
 }
 
 /// The header of the store at this path; none where nothing stands there, or it has none yet.
-pub(crate) fn header_at(rt: &HostRuntime, path: &str) -> Result<Option<Header>, Failure> {
-    let file = match File::open(rt, path) {
-        Ok(file) => file,
-        Err(error) if error.kind() == ErrorKind::NotFound => return Ok(None),
-        Err(error) => return Err(Failure::from(error)),
-    };
-    let mut source = Stream::new(file);
-    match Reader::begin(rt.alloc(), &mut source, &())? {
-        Some(reader) => Ok(Some(reader.header())),
-        None => Ok(None),
+pub(crate) fn standing_header(
+    rt: &HostRuntime,
+    path: &str,
+) -> Result<Option<Header>, JournalError> {
+    match header_at(rt, path) {
+        Err(JournalError::Failed(error)) if error.kind() == ErrorKind::NotFound => Ok(None),
+        found => found,
     }
 }
 
@@ -99,15 +96,6 @@ fn are_one(rt: &HostRuntime, path: &str, second: &str) -> io::Result<bool> {
     has_name(rt, second, &found)
 }
 
-// Whether this is the file that has this name.
-fn has_name(rt: &HostRuntime, path: &str, file: &Metadata) -> io::Result<bool> {
-    match fs::symlink_metadata(rt, path) {
-        Ok(found) => Ok(found.dev() == file.dev() && found.ino() == file.ino()),
-        Err(error) if error.kind() == ErrorKind::NotFound => Ok(false),
-        Err(error) => Err(error),
-    }
-}
-
 /// The turn at the file at this path: while it is held no other `take` gives that another name. `Busy` where another one has it, or another program has put another file in its place.
 pub(crate) fn take_turn(rt: &HostRuntime, path: &str) -> Result<File, Failure> {
     let file = File::open(rt, path)?;
@@ -147,7 +135,7 @@ pub(crate) struct Reserved {
 pub(crate) fn reserve(rt: &HostRuntime, path: &str) -> Result<Reserved, Failure> {
     let is_made = make(rt, path)?;
     let file = take_turn(rt, path)?;
-    if header_at(rt, path)?.is_some() {
+    if standing_header(rt, path)?.is_some() {
         return Err(Failure::from(JournalError::Busy));
     }
     Ok(Reserved { file, is_made })

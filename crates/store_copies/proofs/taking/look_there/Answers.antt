@@ -1,7 +1,7 @@
 use Rattle.std.proofs.Common.{◌<◌, ◌^◌, length, sym, ◌∙◌, arith}
 use Rattle.journal_core.proofs.Causes.{some_at}
-use Rattle.store_views.proofs.Passing.{passed}
-use Rattle.store_views.proofs.taking.look_there.Goals as goal
+use Rattle.store_copies.proofs.Passing.{passed}
+use Rattle.store_copies.proofs.taking.look_there.Goals as goal
 
 pub returns-in-Some-2-clause-same : goal.returns-in-Some-2-clause-same
 returns-in-Some-2-clause-same g c = λ _ records new it is clean.

@@ -4,14 +4,15 @@ ghost use Rattle.sqlite_std_file.specs.File.{file_is_usable};
 ghost use Rattle.journal_core.specs.Format.{records_text};
 ghost use Rattle.journal_core.specs.Resting.{IsSettled, disk_behind};
 ghost use Rattle.journal_file.specs.JournalFiles.{file_is_clean, file_may_leave, file_seen};
-ghost use Rattle.store_views.specs.TakenRounds.{AddsRound, HasInFront, HasRoundAlone};
+ghost use Rattle.store_copies.specs.TakenRounds.{AddsRound, HasInFront, HasRoundAlone};
 
 use crate::behind::records_of;
 use crate::failures::Failure;
 use crate::naming::{
-    before_of, give_name, give_up, header_at, open_copy, real_path, reserve, take_turn, turn_at_own,
+    before_of, give_name, give_up, open_copy, real_path, reserve, standing_header, take_turn,
+    turn_at_own,
 };
-use crate::placed::read_word;
+use crate::placed::{FIRST_GATE, read_word};
 use journal_copies::{append_text, next_round, read_round, records_in};
 use journal_core::{Header, Journal, JournalError, Reader, Stream};
 use journal_file::open;
@@ -20,10 +21,7 @@ use sqlite_std_file::{FileFrom, Start, Wary};
 use std::alloc::{AllocError, Global};
 use std::fs::File;
 use std::io::{self, BufReader, BufWriter, ErrorKind, Read, Write};
-use store_files::{Anew, Progress, Uncompacted, clear, draft_of, make_like};
-
-// How many bytes a header has, and so where the first gate is.
-const HEADER: u64 = 56;
+use store_files::{Anew, HEADER, Progress, clear, draft_of, make_like};
 
 // What is told where another store comes.
 const OTHER: &str = "another store comes, and not a later generation of this one";
@@ -79,7 +77,7 @@ pub fn take<O: Write + Drop>(
         rounds: 0,
         records: 0,
         had: 0,
-        place: HEADER,
+        place: FIRST_GATE,
     };
     let ended = take_all(&mut taken)?;
     taken.progress.end();
@@ -102,7 +100,7 @@ fn refused(rt: &HostRuntime, why: &str) -> Result<End, Failure> {
 
 // What stands in front of the rounds of a file; none where the stream has ended, or no header comes.
 fn read_front<I: Read>(alloc: Global, input: &mut I) -> Result<Option<Front>, Failure> {
-    let mut bytes = [0u8; 56];
+    let mut bytes = [0u8; HEADER];
     match input.read_exact(&mut bytes) {
         Ok(()) => {}
         Err(error) if error.kind() == ErrorKind::UnexpectedEof => return Ok(None),
@@ -126,7 +124,7 @@ fn read_front<I: Read>(alloc: Global, input: &mut I) -> Result<Option<Front>, Fa
 fn begin<I: Read>(front: Front, input: &mut I, taken: &mut Taken<'_>) -> Result<End, Failure> {
     let rt = taken.rt;
     let real = real_path(rt, taken.path)?;
-    let Some(header) = header_at(rt, real.as_str())? else {
+    let Some(header) = standing_header(rt, real.as_str())? else {
         return take_anew(real.as_str(), None, front, input, taken);
     };
     taken.turn = Some(take_turn(rt, real.as_str())?);
@@ -243,7 +241,7 @@ fn take_file<I: Read>(
     let mut journal = put_file(taken.rt, real, had, front.header, round, Anew)?;
     *held = None;
     taken.turn = Some(turn_at_own(taken.rt, real)?);
-    taken.place = HEADER;
+    taken.place = FIRST_GATE;
     taken.add(round);
     let ended = go_on(&mut journal, &mut None, taken.behind(front), input, taken);
     *held = Some(journal);
@@ -260,11 +258,11 @@ enum First {
 
 // Reads the first round of a store.
 fn first_round<I: Read>(rt: &HostRuntime, front: Front, input: &mut I) -> Result<First, Failure> {
-    if front.place != HEADER {
+    if front.place != FIRST_GATE {
         let why = "it does not begin with the first round of a store";
         return Ok(First::Ended(refused(rt, why)?));
     }
-    match read_next(rt.alloc(), input, front.header.key, HEADER)? {
+    match read_next(rt.alloc(), input, front.header.key, FIRST_GATE)? {
         Next::Round(round) => Ok(First::Round(round)),
         Next::Shut => match read_front(rt.alloc(), input)? {
             Some(later) => Ok(First::Ended(End::Anew(later))),
@@ -272,8 +270,8 @@ fn first_round<I: Read>(rt: &HostRuntime, front: Front, input: &mut I) -> Result
         },
         Next::Ended => Ok(First::Ended(End::Stream)),
         Next::Cut => {
-            let why = "the stream has no whole round at byte 56";
-            Ok(First::Ended(refused(rt, why)?))
+            let why = "the stream has no whole round";
+            Ok(First::Ended(refused_at(rt, why, FIRST_GATE)?))
         }
     }
 }
@@ -362,7 +360,7 @@ fn write_beside<S: Start>(
 
 // Makes the draft, without a byte.
 fn make_beside(rt: &HostRuntime, real: &str, draft: &str, header: Header) -> Result<(), Failure> {
-    clear(rt, draft, header.began, header.generation).map_err(not_clear)?;
+    clear(rt, draft, header.began, header.generation)?;
     Ok(make_like(rt, real, draft)?)
 }
 
@@ -420,19 +418,6 @@ fn append_round<D: Disk>(
         return Err(Failure::from(io::Error::from(ErrorKind::InvalidData)));
     }
     Ok(())
-}
-
-fn not_clear(error: Uncompacted) -> Failure {
-    match error {
-        Uncompacted::Store(error) => Failure::from(error),
-        Uncompacted::Failed(error) | Uncompacted::Unsynced(error) => Failure::from(error),
-        Uncompacted::InTheWay(draft) => {
-            Failure::At(draft, io::Error::from(ErrorKind::AlreadyExists))
-        }
-        Uncompacted::New | Uncompacted::Replaced => {
-            Failure::from(io::Error::from(ErrorKind::AlreadyExists))
-        }
-    }
 }
 
 // What comes next in the stream.

@@ -1,6 +1,6 @@
 use Rattle.std.proofs.Common.{Bool, IsTrue, subst}
 use Rattle.std.specs.Prelude.{Result, Ok, Err, OnOk}
-use Rattle.store_views.proofs.taking.append_beside.Goals as goal
+use Rattle.store_copies.proofs.taking.append_beside.Goals as goal
 
 always : {T E P : Type 0} (r : Result T E) → P → OnOk r P
 always (Ok v) p = p

@@ -1,10 +1,10 @@
 -- What is restored of a walk that is set back is the map, with each entry set back.
-use Rattle.std.proofs.Common.{◌≡◌, ◌⊎◌, inl, inr, ℕ, ◌+◌, ◌<◌, ◌≤◌, List, [], ◌∷◌, ◌++◌, length, map, get_or, take, drop, Bool, true, false, cond, Option, Some, None, Ok, Err, refl, sym, ap, subst, ◌∙◌, arith}
+use Rattle.std.proofs.Common.{◌≡◌, ◌⊎◌, inl, inr, ℕ, ◌+◌, ◌<◌, ◌≤◌, List, [], ◌∷◌, ◌++◌, length, map, get_or, take, drop, Bool, true, false, cond, Option, Some, None, Ok, Err, refl, sym, ap, subst, ◌∙◌}
 use Rattle.std.specs.Prelude.{option_map}
 use Rattle.std.specs.FinMap.{entries}
 use Rattle.std.specs.Borrow.{Bor}
 use Rattle.std.specs.List.{flat_map}
-use Rattle.std.proofs.lemmas.List.{length-drop, map-append, nil_from_length, take_all}
+use Rattle.std.proofs.lemmas.List.{map-append}
 use Rattle.std.specs.List.Sorted.{IsPermutation}
 use Rattle.std.proofs.lemmas.List.Sorted.{IsPermutation-map}
 use Rattle.dav_path_core.specs.declared.errors.FsError.{FsError}
@@ -29,7 +29,7 @@ use Rattle.dav_snapshots_core.specs.WrittenSnapshots.{HasPaths}
 use Rattle.dav_snapshots_core.proofs.LateLemmas.{are_late}
 use Rattle.dav_snapshots_core.proofs.MappedMaps.{entries-with_values, get-with_values, with_value, with_values}
 use Rattle.dav_snapshots_core.proofs.MetLemmas.{in_map}
-use Rattle.dav_snapshots_core.proofs.PutLemmas.{drop_next, split_at, take_next}
+use Rattle.dav_snapshots_core.proofs.PutLemmas.{drop_next, split_at}
 
 head_same : {A : Type 0} (x y : A) (xs ys : List A) → x ∷ xs ≡ y ∷ ys → x ≡ y
 head_same x y xs ys e = cc
@@ -127,16 +127,6 @@ module _ (place : Stored → Path × Resource) (xs : List Stored) (i : ℕ) (m :
       let one : restore_all m (map place (x ∷ drop (i + 1) xs)) ≡ restore_all n (map place (drop (i + 1) xs)) = rw h refl in
       sym one ∙ ap (λ (l : List Stored). restore_all m (map place l)) (sym (drop_next xs i x lt at)) ∙ so_far
 
-  pub is_refused : (x : Stored) (e : FsError) → i < length xs → x ≡ get_or xs i x → restore m (place x).0 (place x).1 ≡ Err e → whole ≡ Err e
-  is_refused x e lt at h =
-      let one : restore_all m (map place (x ∷ drop (i + 1) xs)) ≡ Err e = rw h refl in
-      sym so_far ∙ ap (λ (l : List Stored). restore_all m (map place l)) (drop_next xs i x lt at) ∙ one
-
-  pub is_done : length xs ≤ i → whole ≡ Ok (tt, m)
-  is_done le =
-      let none : drop i xs ≡ [] = nil_from_length (drop i xs) (omega (arith, length-drop i xs)) in
-      sym so_far ∙ ap (λ (l : List Stored). restore_all m (map place l)) none
-
 -- ---- locks
 
 module _ (from : ℕ) where
@@ -160,13 +150,6 @@ module _ (from : ℕ) where
     is_free apart =
         let front = map (λ (l : Bor Lock). l.now) (take i ls) in
         conflicts_back front (lock_path x.now) x.now.shared x.now.deep ∙ ap locks_back (free_behind front x.now (map (λ l. l.now) (drop (i + 1) ls)) (subst Exclusive parted_there apart))
-
-    pub one_lock_more : map (lock_set_back from) (map (λ l. l.now) (take (i + 1) ls)) ≡ map (lock_set_back from) (map (λ l. l.now) (take i ls)) ++ lock_set_back from x.now ∷ []
-    one_lock_more = ap (λ (l : List (Bor Lock)). locks_back (map (λ l. l.now) l)) (take_next ls i x lt at) ∙ ap locks_back (map-append (λ l. l.now) (take i ls) (x ∷ []))
-        ∙ map-append (lock_set_back from) (map (λ l. l.now) (take i ls)) (x.now ∷ [])
-
-  pub all_locks : (ls : List (Bor Lock)) (i : ℕ) → length ls ≤ i → map (lock_set_back from) (map (λ l. l.now) (take i ls)) ≡ map (lock_set_back from) (map (λ l. l.now) ls)
-  all_locks ls i le = ap (λ (l : List (Bor Lock)). locks_back (map (λ l. l.now) l)) (take_all i ls le)
 
 -- ---- the stores
 

@@ -2,7 +2,10 @@
 use Rattle.std.specs.Prelude.{◌≡◌, ℕ, List, [], Bool, IsTrue}
 use Rattle.journal_core.specs.declared.header.Header.{Header}
 use Rattle.journal_core.specs.declared.journal.Journal.{Journal}
-use Rattle.journal_core.specs.Resting.{IsSettled, disk_behind, header_in}
+use Rattle.sqlite_disk.specs.Disk.{Only}
+use Rattle.journal_core.specs.declared.reader.Reader.{Reader}
+use Rattle.journal_core.specs.JournalReading.{header_of}
+use Rattle.journal_core.specs.Resting.{IsBeingRead, IsSettled, disk_behind, header_in}
 use Rattle.dav_guarded_core.specs.Stores.{Stores}
 use Rattle.dav_snapshots_core.specs.WrittenSnapshots.{HasPaths}
 use Rattle.dav_store_core.specs.Loading.{IsLoaded}
@@ -16,3 +19,9 @@ HasHeader seen may_leave is_clean j h =
 abbrev pub IsOnDisk : {D B : Type 0} → (D → List ℕ) → (D → List ℕ → Type 0) → (D → Bool) → Journal D B → Header → Stores → ℕ → Type 0
 IsOnDisk seen may_leave is_clean j h s last =
     IsTrue (is_clean (disk_behind j)) → HasPaths s.map → IsLoaded seen may_leave is_clean j h s last
+
+-- These are the stores and the last moment that the journal stood for, which was read by this reader from its front to its end; unless a read of the disk lied.
+abbrev pub IsReadAs : {D B : Type 0} → (D → List ℕ) → (D → List ℕ → Type 0) → (D → Bool) → Journal D B → Journal D B → Reader → Stores → ℕ → Type 0
+IsReadAs seen may_leave is_clean old new reader s last =
+    IsBeingRead seen is_clean old reader [] → IsTrue (is_clean (disk_behind new)) → Only (seen (disk_behind old)) (may_leave (disk_behind old))
+    → IsLoaded seen may_leave is_clean new (header_of reader) s last

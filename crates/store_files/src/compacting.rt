@@ -1,12 +1,14 @@
 //! Compacting a store: its file is written anew, as a snapshot of what stands in it, and takes the place of the old one.
-ghost use Rattle.std.specs.Prelude.{◌≡◌, ◌<◌, ◌-◌, ◌^◌, ◌⊎◌, [], false, IsTrue, IfOk, OnOk};
+ghost use Rattle.std.specs.Prelude.{◌≡◌, ◌<◌, ◌-◌, ◌^◌, ◌⊎◌, ℕ, [], false, IsTrue, IfOk, OnOk};
 ghost use Rattle.sqlite_std_file.specs.File.{file_is_usable};
+ghost use Rattle.journal_core.specs.declared.header.Header.{Header};
 ghost use Rattle.journal_core.specs.Resting.{disk_behind, header_in};
 ghost use Rattle.journal_file.specs.JournalFiles.{file_is_clean, file_may_leave, file_seen};
 ghost use Rattle.dav_store_core.specs.Compacting.{IsMadeAnew};
+ghost use Rattle.dav_guarded_core.specs.Stores.{Stores};
 ghost use Rattle.dav_snapshots_core.specs.WrittenSnapshots.{HasPaths};
 ghost use Rattle.dav_store_core.specs.Loading.{IsLoaded};
-ghost use Rattle.store_files.specs.WrittenStores.{IsOnDisk};
+ghost use Rattle.store_files.specs.WrittenStores.{IsOnDisk, IsReadAs};
 
 use crate::error::Uncompacted;
 use crate::placing::{
@@ -35,13 +37,13 @@ pub struct Compacted<S: Start, B> {
     pub now: u64,
 }
 
-/// How long a file was, and how long it is once it was compacted (own).
+// How long a file was, and how long it is once it was compacted.
 #[derive(Clone, Copy)]
-pub struct Lengths {
-    /// How many bytes it had.
-    pub before: u64,
-    /// How many it has.
-    pub now: u64,
+struct Lengths {
+    // How many bytes it had.
+    before: u64,
+    // How many it has.
+    now: u64,
 }
 
 /// What is supposed of the new file as it is opened: it has no byte (own).
@@ -60,13 +62,19 @@ impl Start for Anew {
     }
 }
 
-/// Compacts the file at this path, as `compact_opened` does, while no server runs (own). The file is locked
+/// Compacts the file at this path, as `compact_opened` does, while no server runs, and gives the new one (own). The file is locked
 /// meanwhile. Where a link stands at the path, that is done where it leads.
 ///
 /// - `Store`: the old file is refused, as `load` says, or another program has it open.
 /// - `New`: it has no record yet.
 /// - And as `compact_opened` says.
-pub fn compact_file(rt: &HostRuntime, path: &str) -> Result<Lengths, Uncompacted> {
+pub fn compact_file<S: Start>(
+    rt: &HostRuntime,
+    path: &str,
+    start: S,
+) -> Result<Compacted<S, ()>, Uncompacted>
+    ensures usable { IfOk result (λ made. IsTrue (file_is_usable S.Start (disk_behind made.journal))) }
+{
     let real = fs::canonicalize(rt, path)?;
     if is_new(rt, real.as_str())? {
         return Err(Uncompacted::New);
@@ -74,37 +82,30 @@ pub fn compact_file(rt: &HostRuntime, path: &str) -> Result<Lengths, Uncompacted
     let header = header_of(rt, 0, 0)?;
     let (mut old, found) = open(rt, real.as_str(), header, &(), Wary)?;
     match found {
-        Some(mut reader) => compact_journal(rt, real.as_str(), &mut old, &mut reader),
+        Some(mut reader) => compact_journal(rt, real.as_str(), &mut old, &mut reader, start),
         None => Err(Uncompacted::New),
     }
 }
 
 // Compacts the file, which has this journal.
-fn compact_journal<D: Disk>(
+fn compact_journal<D: Disk, S: Start>(
     rt: &HostRuntime,
     path: &str,
     journal: &mut Journal<D, ()>,
     reader: &mut Reader,
-) -> Result<Lengths, Uncompacted>
+    start: S,
+) -> Result<Compacted<S, ()>, Uncompacted>
     requires usable { IsTrue (D.Disk.is_usable (disk_behind journal.old)) }
+    ensures usable { IfOk result (λ made. IsTrue (file_is_usable S.Start (disk_behind made.journal))) }
+    // What the old file stands for is what the new one stands for, on the disk.
+    ensures kept { IfOk result (λ made. (s : Stores) × (last : ℕ)
+        × IsReadAs D.Disk.seen D.Disk.may_leave D.Disk.is_clean journal.old journal.new reader.old s last
+        × IsOnDisk (file_seen S.Start) (file_may_leave S.Start) (file_is_clean S.Start)
+        made.journal made.header s last) }
 {
     let header = reader.header();
     let opened = load(rt.alloc(), journal, reader, &(), &mut Unwatched)?;
-    compact_loaded(rt, path, header, &opened)
-}
-
-// Compacts the file, which has this header and these stores.
-fn compact_loaded(
-    rt: &HostRuntime,
-    path: &str,
-    header: Header,
-    opened: &Opened,
-) -> Result<Lengths, Uncompacted> {
-    let made = compact_opened(rt, path, header, opened, &(), Anew)?;
-    Ok(Lengths {
-        before: made.before,
-        now: made.now,
-    })
+    compact_opened(rt, path, header, &opened, &(), start)
 }
 
 /// Nobody is told how far a file was read (own).
@@ -274,21 +275,28 @@ fn put_in_place<D: Disk, B>(
     fs::rename(rt, new, old)
 }
 
-/// Makes a store at this path, where nothing stands, of what was read of another file with this header (own).
+/// Makes a store at this path, where nothing stands, of what was read of another file with this header, and gives it (own).
 /// It is of the next generation, and on the disk at `Ok`, its name too.
 ///
 /// - `InTheWay`: something stands there. It stays.
 /// - `Store`, `Failed`: the file could not be made and written; it is removed again.
-pub fn make_store(
+///
+/// As `journal_file::open` says, a value of each `S` is taken once, and `S` says that the file has no byte.
+pub fn make_store<S: Start>(
     rt: &HostRuntime,
     path: &str,
     header: Header,
     opened: &Opened,
-) -> Result<(), Uncompacted> {
+    start: S,
+) -> Result<Journal<FileFrom<S>, ()>, Uncompacted>
+    ensures kept { IfOk result (λ journal. (h : Header) × (h.began ≡ header.began)
+        × IsOnDisk (file_seen S.Start) (file_may_leave S.Start) (file_is_clean S.Start)
+        journal h opened.now.stores opened.now.last.0) }
+{
     find_free(rt, path)?;
     let later = header_of(rt, header.generation.saturating_add(1), header.began)?;
-    match write_store(rt, path, later, opened) {
-        Ok(()) => Ok(()),
+    match write_store(rt, path, later, opened, start) {
+        Ok(journal) => Ok(journal),
         Err(Uncompacted::InTheWay(path)) => Err(Uncompacted::InTheWay(path)),
         Err(error) => {
             let _removed = fs::remove_file(rt, path);
@@ -298,19 +306,23 @@ pub fn make_store(
 }
 
 // Writes the store, and puts its name on the disk. `InTheWay` where another program has made one there meanwhile.
-fn write_store(
+fn write_store<S: Start>(
     rt: &HostRuntime,
     path: &str,
     header: Header,
     opened: &Opened,
-) -> Result<(), Uncompacted>
+    start: S,
+) -> Result<Journal<FileFrom<S>, ()>, Uncompacted>
     requires later { 0 < header.generation }
+    ensures kept { IfOk result (λ journal. IsOnDisk (file_seen S.Start) (file_may_leave S.Start)
+        (file_is_clean S.Start) journal header opened.now.stores opened.now.last.0) }
 {
-    let (mut journal, found) = open(rt, path, header, &(), Anew)?;
+    let (mut journal, found) = open(rt, path, header, &(), start)?;
     if found.is_some() {
         return Err(in_the_way(rt, path)?);
     }
-    write_named(rt, path, &mut journal, header, opened)
+    write_named(rt, path, &mut journal, header, opened)?;
+    Ok(journal)
 }
 
 // Writes the snapshot into the file, and puts its name on the disk.
@@ -325,6 +337,8 @@ fn write_named<D: Disk>(
     requires anew { IsTrue (D.Disk.is_clean (disk_behind journal.old))
         → IsMadeAnew D.Disk.seen D.Disk.may_leave D.Disk.is_clean journal.old
         × (header_in journal.old ≡ header) }
+    ensures written { OnOk result (IsOnDisk D.Disk.seen D.Disk.may_leave D.Disk.is_clean journal.new
+        header opened.now.stores opened.now.last.0) }
 {
     write_into(rt.alloc(), journal, header, opened, &())?;
     let real = fs::canonicalize(rt, path)?;

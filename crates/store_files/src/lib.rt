@@ -13,7 +13,7 @@ mod settling;
 
 pub use clock::now;
 pub use compacting::{
-    Anew, Compacted, Lengths, Unwatched, compact_file, compact_opened, header_of, make_store,
+    Anew, Compacted, Unwatched, compact_file, compact_opened, header_of, make_store,
 };
 pub use error::Uncompacted;
 pub use making::{Naming, Stood, find_or_make, has_name, is_one_file, make_new};

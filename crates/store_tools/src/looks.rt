@@ -6,7 +6,7 @@ use crate::inputs::input;
 use dav_guarded_core::fs::Moment;
 use std::io::{self, BufWriter, Write};
 use store_copies::{Failure, Found, Tail, round_behind};
-use store_files::{Opening, Uncompacted, Unwatched, make_store};
+use store_files::{Anew, Opening, Uncompacted, Unwatched, make_store};
 use store_views::{
     Broken, Front, Seen, Whole, adopt, end_of, header_of, is_wanted, later_in, list, list_locks,
     look, read_front, tell_later,
@@ -237,8 +237,8 @@ fn make_of<O: Write + Drop>(
     records: u64,
     output: &mut BufWriter<O>,
 ) -> Result<bool, Failure> {
-    match make_store(rt, to, front.header, &front.opened) {
-        Ok(()) => {
+    match make_store(rt, to, front.header, &front.opened, Anew) {
+        Ok(_store) => {
             let last = front.opened.last.0;
             writeln!(output, "salvaged: {records} records, last moment {last}")?;
             Ok(true)

@@ -9,7 +9,7 @@ use std::alloc::AllocError;
 use std::env;
 use std::io::{self, BufWriter, ErrorKind, Write};
 use store_copies::{Failure, follow, take};
-use store_files::{Lengths, Naming, Uncompacted, compact_file, make_new, now, settle_file};
+use store_files::{Anew, Naming, Uncompacted, compact_file, make_new, now, settle_file};
 use store_views::{Logged, log};
 
 // The words that the program takes.
@@ -134,8 +134,9 @@ fn compact<O: Write + Drop>(
     path: &str,
     output: &mut BufWriter<O>,
 ) -> io::Result<bool> {
-    match compact_file(rt, path) {
-        Ok(Lengths { before, now }) => {
+    match compact_file(rt, path, Anew) {
+        Ok(made) => {
+            let (before, now) = (made.before, made.now);
             writeln!(output, "compacted: {before} bytes before, {now} bytes now")?;
             Ok(true)
         }
@@ -150,8 +151,9 @@ fn settle<O: Write + Drop>(
     from: Moment,
     output: &mut BufWriter<O>,
 ) -> io::Result<bool> {
-    match settle_file(rt, path, from) {
-        Ok(Some(Lengths { before, now })) => {
+    match settle_file(rt, path, from, Anew) {
+        Ok(Some(made)) => {
+            let (before, now) = (made.before, made.now);
             writeln!(output, "settled: {before} bytes before, {now} bytes now")?;
             Ok(true)
         }

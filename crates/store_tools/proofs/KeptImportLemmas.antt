@@ -1,18 +1,20 @@
 -- How the additions of an import go on, and what is kept of them in a journal.
-use Rattle.std.proofs.Common.{◌≡◌, ◌≤◌, ◌+◌, ℕ, Bool, Result, Ok, Err, IfOk, OnOk, List, [], ◌∷◌, ◌++◌, length, refl, sym, ◌∙◌, ap, append_assoc, append-nil, length-append, suc, subst, arith, inr}
+use Rattle.std.proofs.Common.{◌≡◌, ◌≤◌, ◌+◌, ℕ, Bool, IsTrue, Result, Ok, Err, IfOk, OnOk, List, [], ◌∷◌, ◌++◌, length, refl, sym, ◌∙◌, ap, append_assoc, append-nil, length-append, suc, subst, arith, inr}
 use Rattle.journal_core.specs.declared.header.Header.{Header}
 use Rattle.journal_core.specs.declared.journal.Journal.{Journal}
 use Rattle.journal_core.specs.declared.round.Round.{Round}
+use Rattle.journal_core.specs.Format.{Lies}
 use Rattle.journal_core.specs.Resting.{Carries, IsSettled, disk_behind, header_in}
 use Rattle.journal_core.proofs.Records.{none_left}
 use Rattle.dav_guarded_core.specs.Stores.{Stores}
 use Rattle.dav_notes_core.specs.Noting.{Noted}
+use Rattle.dav_store_core.specs.Loading.{IsLoaded}
 use Rattle.dav_store_core.specs.StandingFor.{AreRecords, StandFor}
 use Rattle.store_tools.specs.declared.additions.Additions.{Additions}
 use Rattle.store_tools.specs.declared.additions.Counts.{Counts}
 use Rattle.store_tools.specs.Adding.{IsAdded, StaysLive}
 use Rattle.store_tools.specs.ImportedEntries.{Source, notes_for}
-use Rattle.store_tools.specs.KeptImports.{AddsOn, HasAdded, IsImportedInto, IsImportingInto, ImportsOn, EndsImport, StandsButLocks, count_of}
+use Rattle.store_tools.specs.KeptImports.{AddsOn, HasAdded, HoldsImport, IsImportedInto, IsImportingInto, ImportsOn, EndsImport, StandsButLocks, count_of}
 use Rattle.store_tools.proofs.ImportLemmas.{imports_appended, imports_begin, imports_left, imports_more, imports_stand}
 
 -- there are as many records as requests
@@ -44,6 +46,17 @@ adds_none a a' live round none = λ base from made h. record {
   importing = imports_left base a.opened.stores a'.opened.stores from a.opened.last.0 a'.opened.last.0 made (Carries a.round) (Carries a'.round) h.importing live round;
   counted = omega (arith, none, h.counted);
 }
+
+-- nothing was added
+pub adds_same : (a a' : Additions) → a' ≡ a → AddsOn a a'
+adds_same a a' same = λ base from made h. subst (λ (b : Additions). HasAdded base from made b) (sym same) h
+
+pub adds_join : (a b c : Additions) → AddsOn a b → AddsOn b c → AddsOn a c
+adds_join a b c one two = λ base from made h. two base from made (one base from made h)
+
+-- what has no record yet, and counts none, begins an import
+pub adds_begin : (a : Additions) → Carries a.round [] → a.files + a.folders ≤ 0 → HasAdded a.opened.stores a.opened.last.0 [] a
+adds_begin a empty none = record { importing = imports_begin a.opened.stores a.opened.last.0 (Carries a.round) empty; counted = omega (arith, none) }
 
 -- ---- in a journal
 
@@ -86,3 +99,41 @@ module _ {D B : Type 0} (seen : D → List ℕ) (may_leave : D → List ℕ → 
         stand = λ header stood. subst (λ (l : List (List ℕ)). StandsButLocks header (records ++ l) a.opened.stores a.opened.last.0) made
             (imports_stand base a.opened.stores from a.opened.last.0 i.made (Carries a.round) (Carries a.round) h header records stood);
       }
+
+  -- ---- steps, one behind another
+
+  -- something more was added, and nothing appended
+  pub adds_on : (j : Journal D B) (a a' : Additions) → AddsOn a a' → ImportsOn seen may_leave is_clean j a j a'
+  adds_on j a a' on = λ records base from i. record i { added = on base from i.made i.added }
+
+  pub on_join : (j k l : Journal D B) (a b c : Additions) → ImportsOn seen may_leave is_clean j a k b → ImportsOn seen may_leave is_clean k b l c → ImportsOn seen may_leave is_clean j a l c
+  on_join j k l a b c one two = λ records base from i. two records base from (one records base from i)
+
+  pub on_ends : (j k l : Journal D B) (a b c : Additions) (counts : Counts) → ImportsOn seen may_leave is_clean j a k b → EndsImport seen may_leave is_clean k b l c counts → EndsImport seen may_leave is_clean j a l c counts
+  on_ends j k l a b c counts one ends = (ends.0, λ records base from i. ends.1 records base from (one records base from i))
+
+  -- ---- an import into the stores that were read
+
+  pub holds_import : (j k : Journal D B) (file : List ℕ) (h : Header) (s : Stores) (last : ℕ) (a b : Additions) (counts : Counts) → IsLoaded seen may_leave is_clean j h s last → seen (disk_behind j) ≡ file → header_in j ≡ h
+      → HasAdded s last [] a → EndsImport seen may_leave is_clean j a k b counts → HoldsImport seen may_leave is_clean file h k (count_of counts)
+  holds_import j k file h s last a b counts loaded same header begun ends =
+      let none : loaded.records ++ [] ≡ loaded.records = append-nil loaded.records in
+      let lies : Lies h file loaded.settled.rounds = subst (λ (g : Header). Lies g file loaded.settled.rounds) header (subst (λ (f : List ℕ). Lies j.header f loaded.settled.rounds) same loaded.settled.lies) in
+      record {
+        records = loaded.records;
+        base = s;
+        from = last;
+        stores = b.opened.stores;
+        last = b.opened.last.0;
+        stood = inr (loaded.settled.rounds, lies, loaded.settled.same);
+        stand = loaded.stand;
+        imported = ends.1 loaded.records s last (record { made = []; settled = subst (λ (l : List (List ℕ)). IsSettled seen may_leave is_clean j l) (sym none) loaded.settled; added = begun });
+      }
+
+  pub holds_if : {E : Type 0} (r : Result Counts E) (j k : Journal D B) (file : List ℕ) (h : Header) (s : Stores) (last : ℕ) (a b : Additions) (reads only : Type 0)
+      → (reads → IsTrue (is_clean (disk_behind j)) → only → IsLoaded seen may_leave is_clean j h s last) → seen (disk_behind j) ≡ file → (reads → header_in j ≡ h) → HasAdded s last [] a
+      → is_clean (disk_behind k) ≡ is_clean (disk_behind j) → IfOk r (λ counts. EndsImport seen may_leave is_clean j a k b counts)
+      → IfOk r (λ counts. reads → IsTrue (is_clean (disk_behind k)) → only → HoldsImport seen may_leave is_clean file h k (count_of counts))
+  holds_if (Ok counts) j k file h s last a b reads only loaded same header begun clean ends = λ being honest durable.
+      holds_import j k file h s last a b counts (loaded being (subst (λ (t : Bool). IsTrue t) clean honest) durable) same (header being) begun ends
+  holds_if (Err e) j k file h s last a b reads only loaded same header begun clean ends = tt

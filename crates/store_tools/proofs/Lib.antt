@@ -1,2 +1,4 @@
+pub mod EndedLockLemmas
+pub mod FoundEntryLemmas
 pub mod ImportLemmas
 pub mod KeptImportLemmas

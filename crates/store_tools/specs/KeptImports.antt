@@ -2,6 +2,7 @@
 use Rattle.std.specs.Prelude.{ℕ, ◌≡◌, ◌+◌, ◌≤◌, List, [], ◌++◌, length, Bool}
 use Rattle.journal_core.specs.declared.header.Header.{Header}
 use Rattle.journal_core.specs.declared.journal.Journal.{Journal}
+use Rattle.journal_core.specs.Format.{StandsFor}
 use Rattle.journal_core.specs.Resting.{Carries, IsSettled}
 use Rattle.dav_guarded_core.specs.Stores.{Stores}
 use Rattle.dav_notes_core.specs.Stepping.{SameLiveStores}
@@ -27,6 +28,10 @@ StandsButLocks h records s now = (t : Stores) × (last : ℕ) × StandFor h reco
 abbrev pub count_of : Counts → ℕ
 count_of c = c.files + c.folders
 
+-- how many are told to be left out
+abbrev pub left_out_of : Counts → ℕ
+left_out_of c = c.left_out
+
 module _ {D B : Type 0} (seen : D → List ℕ) (may_leave : D → List ℕ → Type 0) (is_clean : D → Bool) where
   -- The journal is settled with these records, and behind them those that were made of entries that were added; the round carries the others.
   pub record IsImportingInto (j : Journal D B) (records : List (List ℕ)) (base : Stores) (from : ℕ) (a : Additions) : Type 0 where
@@ -49,3 +54,14 @@ module _ {D B : Type 0} (seen : D → List ℕ) (may_leave : D → List ℕ → 
   abbrev pub EndsImport : Journal D B → Additions → Journal D B → Additions → Counts → Type 0
   EndsImport j a j' a' c = Carries a'.round []
       × ((records : List (List ℕ)) (base : Stores) (from : ℕ) → IsImportingInto j records base from a → IsImportedInto j' records base from a'.opened.stores a'.opened.last.0 (count_of c))
+
+  -- A file with these bytes and this header stood for records, and these for stores. The journal has so many records more at least, which were made of entries, and stands for the stores with these.
+  pub record HoldsImport (file : List ℕ) (h : Header) (j : Journal D B) (count : ℕ) : Type 0 where
+    pub records : List (List ℕ)
+    pub base : Stores
+    pub from : ℕ
+    pub stores : Stores
+    pub last : ℕ
+    pub stood : StandsFor h file records
+    pub stand : StandFor h records base from
+    pub imported : IsImportedInto j records base from stores last count

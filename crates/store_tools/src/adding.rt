@@ -1,5 +1,5 @@
 //! One file or folder is added to kept stores.
-ghost use Rattle.std.specs.Prelude.{◌≡◌, ◌<◌, ◌≤◌, [], ◌∷◌, ◌++◌, ℕ, List, Some, None, Ok, map, IfErr, IfOk, IfSome, OnOk, OnErr};
+ghost use Rattle.std.specs.Prelude.{◌≡◌, ◌<◌, ◌≤◌, ◌+◌, ◌^◌, [], ◌∷◌, ◌++◌, ℕ, List, Some, None, Ok, map, IfErr, IfOk, IfSome, OnOk, OnErr};
 ghost use Rattle.dav_path_core.specs.Segments.{segments};
 ghost use Rattle.dav_files_core.specs.Describing.{metadata};
 ghost use Rattle.rand_core.specs.Stream.{Stream};
@@ -99,6 +99,7 @@ pub fn add(
 /// The moment of what comes next: the clock's where that is later than the last one, and else the nanosecond behind that. `NoMoment` where none is.
 pub(crate) fn moment_behind(last: Moment, clock: Moment) -> Result<Moment, Unimported>
     ensures ok { IfOk result (λ now. now.0 ≡ moment_behind last.0 clock.0) }
+    ensures comes { OnOk result (last.0 + 1 < 2 ^ 64) }
     ensures err { IfErr result (λ e. (e ≡ why.NoMoment) × (last.0 ≡ u64.MAX)) }
 {
     match last.0.checked_add(1) {

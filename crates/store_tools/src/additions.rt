@@ -1,9 +1,9 @@
 //! What an import has added to the stores of a journal, and what of it is not appended yet.
-ghost use Rattle.std.specs.Prelude.{◌≡◌, ◌∷◌, ◌++◌, [], ℕ, List, IfErr, IfOk, IsTrue, OnOk};
+ghost use Rattle.std.specs.Prelude.{◌≡◌, ◌==◌, ◌∷◌, ◌++◌, [], ℕ, List, IfErr, IfOk, IsTrue, OnOk};
 ghost use Rattle.journal_core.specs.Resting.{Carries, disk_behind};
-ghost use Rattle.store_tools.specs.Adding.{IsAdded, LeavesAll};
-ghost use Rattle.store_tools.specs.ImportedEntries.{source_of};
-ghost use Rattle.store_tools.specs.KeptImports.{AddsOn, ImportsOn, EndsImport};
+ghost use Rattle.store_tools.specs.Adding.{IsAdded, LeavesAll, Refuses};
+ghost use Rattle.store_tools.specs.ImportedEntries.{moment_behind, source_of};
+ghost use Rattle.store_tools.specs.KeptImports.{AddsOn, ImportsOn, EndsImport, HasAdded, left_out_of};
 
 use crate::adding::{Unimported, add};
 use crate::entries::Entry;
@@ -47,6 +47,7 @@ impl Additions {
         ensures opened { result.opened ≡ opened }
         ensures empty { Carries result.round [] }
         ensures none { (result.files ≡ 0) × (result.folders ≡ 0) }
+        ensures begins { HasAdded opened.stores opened.last.0 [] result }
     {
         Additions {
             opened,
@@ -68,6 +69,7 @@ impl Additions {
             (λ bytes. (records : List (List ℕ)) → Carries self.old.round records → Carries self.new.round (records ++ bytes ∷ []))) }
         ensures goes_on { OnOk result (AddsOn self.old self.new) }
         ensures left { IfErr result (λ e. LeavesAll e → AddsOn self.old self.new) }
+        ensures cause { IfErr result (λ e. Refuses self.old.opened.stores self.old.opened.last.0 (moment_behind self.old.opened.last.0 clock.0) (source_of entry.now) e) }
     {
         add(alloc, &mut self.opened, &mut self.round, entry, clock)?;
         self.records = self.records.saturating_add(1);
@@ -87,6 +89,7 @@ impl Additions {
         requires usable { IsTrue (D.Disk.is_usable (disk_behind journal.old)) }
         ensures keeps { OnOk result (ImportsOn D.Disk.seen D.Disk.may_leave D.Disk.is_clean journal.old self.old journal.new self.new) }
         ensures empty { OnOk result (Carries self.new.round []) }
+        ensures stays { self.new.opened ≡ self.old.opened }
         ensures clean { D.Disk.is_clean (disk_behind journal.new) ≡ D.Disk.is_clean (disk_behind journal.old) }
         ensures usable { OnOk result (IsTrue (D.Disk.is_usable (disk_behind journal.new))) }
     {
@@ -106,6 +109,7 @@ impl Additions {
         requires usable { IsTrue (D.Disk.is_usable (disk_behind journal.old)) }
         // The round has no record any more, and the journal stands for the stores.
         ensures imported { IfOk result (EndsImport D.Disk.seen D.Disk.may_leave D.Disk.is_clean journal.old self.old journal.new self.new) }
+        ensures told { IfOk result (λ counts. left_out_of counts ≡ left_out) }
         ensures clean { D.Disk.is_clean (disk_behind journal.new) ≡ D.Disk.is_clean (disk_behind journal.old) }
     {
         self.append(alloc, journal)?;
@@ -119,7 +123,9 @@ impl Additions {
 
 impl Counts {
     /// Tells how much was imported. Whether nothing was left out.
-    pub fn tell<O: Write + Drop>(self, output: &mut BufWriter<O>) -> io::Result<bool> {
+    pub fn tell<O: Write + Drop>(self, output: &mut BufWriter<O>) -> io::Result<bool>
+        ensures { IfOk result (λ all. all ≡ (left_out_of self == 0)) }
+    {
         let Counts {
             files,
             folders,

@@ -1,7 +1,16 @@
 //! Importing: what stands in a folder of the system is put into the stores of a file.
-ghost use Rattle.std.specs.Prelude.{◌≡◌, Ok, true, IsTrue, OnOk};
-ghost use Rattle.journal_core.specs.Resting.{disk_behind};
+ghost use Rattle.std.specs.Prelude.{◌≡◌, [], Ok, true, IfOk, IsTrue, MatchOption, OnOk, vec_len};
+ghost use Rattle.sqlite_disk.specs.Disk.{Only};
+ghost use Rattle.dav_path_core.specs.Segments.{segments};
+ghost use Rattle.journal_core.specs.JournalReading.{header_of};
+ghost use Rattle.journal_core.specs.Resting.{Carries, IsBeingRead, disk_behind, header_in};
+ghost use Rattle.dav_store_core.specs.Loading.{IsLoaded};
 ghost use Rattle.store_files.specs.FoundStores.{MayBeOpened};
+ghost use Rattle.store_tools.specs.Adding.{LeavesAll};
+ghost use Rattle.store_tools.specs.FoundEntries.{CameOf, IsDealtWith, LeavesOne};
+ghost use Rattle.store_tools.specs.ImportedEntries.{source_of};
+ghost use Rattle.store_tools.specs.KeptImports.{AddsOn, EndsImport, HasAdded, HoldsImport};
+ghost use Rattle.store_tools.specs.KeptImports.{ImportsOn, count_of, left_out_of};
 
 use crate::adding::{Unimported, check_free};
 use crate::additions::{Additions, BYTES, Counts};
@@ -14,7 +23,7 @@ use journal_core::{Journal, JournalError, Reader};
 use journal_file::open;
 use sqlite_disk::Disk;
 use sqlite_std_file::Wary;
-use std::alloc::AllocError;
+use std::alloc::{AllocError, Global};
 use std::fs::{self, Metadata};
 use std::io::{self, BufWriter, ErrorKind, Write};
 use store_copies::Failure;
@@ -118,6 +127,14 @@ fn import_into<D: Disk, O: Write + Drop>(
     output: &mut BufWriter<O>,
 ) -> Result<Counts, Failure>
     requires usable { IsTrue (D.Disk.is_usable (disk_behind journal.old)) }
+    // What stood in the file is what `load` read, unless a read of the disk lied.
+    ensures imported { IfOk result (λ counts.
+        IsBeingRead D.Disk.seen D.Disk.is_clean journal.old reader.old []
+        → IsTrue (D.Disk.is_clean (disk_behind journal.new))
+        → Only (D.Disk.seen (disk_behind journal.old)) (D.Disk.may_leave (disk_behind journal.old))
+        → HoldsImport D.Disk.seen D.Disk.may_leave D.Disk.is_clean
+        (D.Disk.seen (disk_behind journal.old)) (header_of reader.old) journal.new
+        (count_of counts)) }
 {
     let own = fs::metadata(rt, path)?;
     let opened = read_all(rt, path, journal, reader)?;
@@ -152,6 +169,12 @@ fn import_from<D: Disk, O: Write + Drop>(
     output: &mut BufWriter<O>,
 ) -> Result<Counts, Failure>
     requires usable { IsTrue (D.Disk.is_usable (disk_behind journal.old)) }
+    ensures imported { IfOk result (EndsImport D.Disk.seen D.Disk.may_leave D.Disk.is_clean
+        journal.old importer.old.added journal.new importer.new.added) }
+    ensures told { IfOk result (λ counts. left_out_of counts ≡ importer.new.left_out) }
+    ensures all { OnOk result (vec_len importer.new.waiting ≡ 0) }
+    ensures clean { D.Disk.is_clean (disk_behind journal.new)
+        ≡ D.Disk.is_clean (disk_behind journal.old) }
 {
     importer.enter(source, output)?;
     let imported = import_all(importer, journal, output);
@@ -169,6 +192,15 @@ pub(crate) fn read_all<D: Disk>(
     requires usable { IsTrue (D.Disk.is_usable (disk_behind journal.old)) }
     // As `load` says it.
     ensures usable { IsTrue (D.Disk.is_usable (disk_behind journal.new)) }
+    ensures stands { IfOk result (λ o.
+        IsBeingRead D.Disk.seen D.Disk.is_clean journal.old reader.old []
+        → IsTrue (D.Disk.is_clean (disk_behind journal.new))
+        → Only (D.Disk.seen (disk_behind journal.old)) (D.Disk.may_leave (disk_behind journal.old))
+        → IsLoaded D.Disk.seen D.Disk.may_leave D.Disk.is_clean journal.new
+        (header_of reader.old) o.stores o.last.0) }
+    ensures header { OnOk result (IsBeingRead D.Disk.seen D.Disk.is_clean journal.old reader.old []
+        → header_in journal.new ≡ header_of reader.old) }
+    ensures seen { D.Disk.seen (disk_behind journal.new) ≡ D.Disk.seen (disk_behind journal.old) }
 {
     let mut opening = Opening::of(rt, path);
     let opened = load(rt.alloc(), journal, reader, &(), &mut opening);
@@ -183,11 +215,18 @@ fn import_all<D: Disk, O: Write + Drop>(
     output: &mut BufWriter<O>,
 ) -> Result<Counts, Failure>
     requires usable { IsTrue (D.Disk.is_usable (disk_behind journal.old)) }
+    ensures imported { IfOk result (EndsImport D.Disk.seen D.Disk.may_leave D.Disk.is_clean
+        journal.old import.old.added journal.new import.new.added) }
+    ensures told { IfOk result (λ counts. left_out_of counts ≡ import.new.left_out) }
+    ensures all { OnOk result (vec_len import.new.waiting ≡ 0) }
+    ensures clean { D.Disk.is_clean (disk_behind journal.new)
+        ≡ D.Disk.is_clean (disk_behind journal.old) }
 {
     // A loop is proved to end, so this one counts its turns.
     'importing: for _ in 0..u64::MAX {
         let Some(found) = import.waiting.pop() else {
-            return finish(import, journal);
+            let alloc = import.rt.alloc();
+            return finish(alloc, &mut import.added, journal, import.left_out);
         };
         import_one(import, journal, &found, output)?;
         import.tell_progress();
@@ -204,6 +243,12 @@ fn import_one<D: Disk, O: Write + Drop>(
 ) -> Result<(), Failure>
     requires usable { IsTrue (D.Disk.is_usable (disk_behind journal.old)) }
     ensures usable { OnOk result (IsTrue (D.Disk.is_usable (disk_behind journal.new))) }
+    ensures keeps { OnOk result (ImportsOn D.Disk.seen D.Disk.may_leave D.Disk.is_clean
+        journal.old import.old.added journal.new import.new.added) }
+    ensures dealt { OnOk result (IsDealtWith (segments found.now.path.bytes)
+        import.old.added.opened import.old.left_out import.new.added.opened import.new.left_out) }
+    ensures clean { D.Disk.is_clean (disk_behind journal.new)
+        ≡ D.Disk.is_clean (disk_behind journal.old) }
 {
     let Some(meta) = import.look_at(found, output)? else {
         return Ok(());
@@ -212,7 +257,7 @@ fn import_one<D: Disk, O: Write + Drop>(
     if !import.added.is_full() {
         return Ok(());
     }
-    append(import, journal)
+    append(import.rt.alloc(), &mut import.added, journal)
 }
 
 // Imports a folder or a file, of which so much is known. A long file is in a round of its own.
@@ -225,6 +270,12 @@ fn import_found<D: Disk, O: Write + Drop>(
 ) -> Result<(), Failure>
     requires usable { IsTrue (D.Disk.is_usable (disk_behind journal.old)) }
     ensures usable { OnOk result (IsTrue (D.Disk.is_usable (disk_behind journal.new))) }
+    ensures keeps { OnOk result (ImportsOn D.Disk.seen D.Disk.may_leave D.Disk.is_clean
+        journal.old import.old.added journal.new import.new.added) }
+    ensures dealt { OnOk result (IsDealtWith (segments found.now.path.bytes)
+        import.old.added.opened import.old.left_out import.new.added.opened import.new.left_out) }
+    ensures clean { D.Disk.is_clean (disk_behind journal.new)
+        ≡ D.Disk.is_clean (disk_behind journal.old) }
 {
     if meta.is_dir() {
         return import.add_folder(found, meta, output);
@@ -232,16 +283,26 @@ fn import_found<D: Disk, O: Write + Drop>(
     if meta.len() < BYTES as u64 {
         return import.add_file(found, meta, output);
     }
-    append(import, journal)?;
+    append(import.rt.alloc(), &mut import.added, journal)?;
     import.add_file(found, meta, output)
 }
 
 // Appends the round, which is on the disk at `Ok`, and begins the next.
-fn append<D: Disk>(import: &mut Importer<'_>, journal: &mut Journal<D, ()>) -> Result<(), Failure>
+fn append<D: Disk>(
+    alloc: Global,
+    added: &mut Additions,
+    journal: &mut Journal<D, ()>,
+) -> Result<(), Failure>
     requires usable { IsTrue (D.Disk.is_usable (disk_behind journal.old)) }
     ensures usable { OnOk result (IsTrue (D.Disk.is_usable (disk_behind journal.new))) }
+    ensures keeps { OnOk result (ImportsOn D.Disk.seen D.Disk.may_leave D.Disk.is_clean
+        journal.old added.old journal.new added.new) }
+    ensures empty { OnOk result (Carries added.new.round []) }
+    ensures stays { added.new.opened ≡ added.old.opened }
+    ensures clean { D.Disk.is_clean (disk_behind journal.new)
+        ≡ D.Disk.is_clean (disk_behind journal.old) }
 {
-    match import.added.append(import.rt.alloc(), journal) {
+    match added.append(alloc, journal) {
         Ok(()) => Ok(()),
         Err(error) => Err(Failure::Unkept(error)),
     }
@@ -249,23 +310,51 @@ fn append<D: Disk>(import: &mut Importer<'_>, journal: &mut Journal<D, ()>) -> R
 
 // Appends the last round, and counts.
 fn finish<D: Disk>(
-    import: &mut Importer<'_>,
+    alloc: Global,
+    added: &mut Additions,
     journal: &mut Journal<D, ()>,
+    left_out: u64,
 ) -> Result<Counts, Failure>
     requires usable { IsTrue (D.Disk.is_usable (disk_behind journal.old)) }
+    ensures imported { IfOk result (EndsImport D.Disk.seen D.Disk.may_leave D.Disk.is_clean
+        journal.old added.old journal.new added.new) }
+    ensures told { IfOk result (λ counts. left_out_of counts ≡ left_out) }
+    ensures clean { D.Disk.is_clean (disk_behind journal.new)
+        ≡ D.Disk.is_clean (disk_behind journal.old) }
 {
-    match import
-        .added
-        .finish(import.rt.alloc(), journal, import.left_out)
-    {
+    match added.finish(alloc, journal, left_out) {
         Ok(counts) => Ok(counts),
         Err(error) => Err(Failure::Unkept(error)),
     }
 }
 
+// What was found, as an entry with this content.
+fn entry_of(found: &Found, content: Option<Bytes>, meta: &Metadata) -> Result<Entry, AllocError>
+    ensures { IfOk result (λ e. (source_of e).path ≡ segments found.now.path.bytes) }
+{
+    let path = found.path.clone()?;
+    Ok(Entry {
+        path,
+        content,
+        modified: time_of(meta),
+    })
+}
+
+// Why an entry is left out. Want of memory is an error, since a part of the entry may be done then.
+fn refusal_of(why: Unimported) -> Result<Unimported, Failure>
+    ensures { IfOk result (λ e. (e ≡ why) × LeavesAll why) }
+{
+    match why {
+        Unimported::OutOfMemory | Unimported::Unfinished => Err(AllocError.into()),
+        _ => Ok(why),
+    }
+}
+
 impl<'a> Importer<'a> {
     // Of nothing yet, into stores whose file is this one.
-    fn over(rt: &'a HostRuntime, opened: Opened, own: Metadata) -> Importer<'a> {
+    fn over(rt: &'a HostRuntime, opened: Opened, own: Metadata) -> Importer<'a>
+        ensures { HasAdded opened.stores opened.last.0 [] result.added }
+    {
         Importer {
             rt,
             progress: Progress::new(rt),
@@ -282,7 +371,12 @@ impl<'a> Importer<'a> {
         &mut self,
         found: &Found,
         output: &mut BufWriter<O>,
-    ) -> Result<Option<Metadata>, Failure> {
+    ) -> Result<Option<Metadata>, Failure>
+        ensures added { self.new.added ≡ self.old.added }
+        ensures left { IfOk result (λ known. MatchOption known
+            (LeavesOne self.old.left_out self.new.left_out)
+            (λ _. self.new.left_out ≡ self.old.left_out)) }
+    {
         let meta = match fs::symlink_metadata(self.rt, found.place.as_str()) {
             Ok(meta) => meta,
             Err(error) if error.kind() == ErrorKind::InvalidFilename => {
@@ -309,12 +403,15 @@ impl<'a> Importer<'a> {
         found: &Found,
         meta: &Metadata,
         output: &mut BufWriter<O>,
-    ) -> Result<(), Failure> {
+    ) -> Result<(), Failure>
+        ensures goes_on { OnOk result (AddsOn self.old.added self.new.added) }
+        ensures dealt { OnOk result (IsDealtWith (segments found.now.path.bytes)
+            self.old.added.opened self.old.left_out self.new.added.opened self.new.left_out) }
+    {
         match self.add(found, None, meta)? {
-            Ok(()) | Err(Unimported::Folder) => {}
-            Err(why) => return self.refuse(found, why, output),
+            Ok(()) | Err(Unimported::Folder) => self.enter(found, output),
+            Err(why) => self.refuse(found, why, output),
         }
-        self.enter(found, output)
     }
 
     fn add_file<O: Write + Drop>(
@@ -322,7 +419,11 @@ impl<'a> Importer<'a> {
         found: &Found,
         meta: &Metadata,
         output: &mut BufWriter<O>,
-    ) -> Result<(), Failure> {
+    ) -> Result<(), Failure>
+        ensures goes_on { OnOk result (AddsOn self.old.added self.new.added) }
+        ensures dealt { OnOk result (IsDealtWith (segments found.now.path.bytes)
+            self.old.added.opened self.old.left_out self.new.added.opened self.new.left_out) }
+    {
         // So that what stands there already is not read in vain.
         if let Err(why) = check_free(
             &self.added.opened.stores,
@@ -333,12 +434,11 @@ impl<'a> Importer<'a> {
         }
         let bytes = bytes_of(self.rt, found.place.as_str(), meta)?;
         match self.add(found, Some(bytes), meta)? {
-            Ok(()) => {
-                self.bytes = self.bytes.saturating_add(meta.len());
-                Ok(())
-            }
-            Err(why) => self.refuse(found, why, output),
+            Ok(()) => {}
+            Err(why) => return self.refuse(found, why, output),
         }
+        self.bytes = self.bytes.saturating_add(meta.len());
+        Ok(())
     }
 
     // Adds it to the stores and to the round, or answers why it is left out.
@@ -347,17 +447,17 @@ impl<'a> Importer<'a> {
         found: &Found,
         content: Option<Bytes>,
         meta: &Metadata,
-    ) -> Result<Result<(), Unimported>, Failure> {
-        let entry = Entry {
-            path: found.path.clone()?,
-            content,
-            modified: time_of(meta),
-        };
+    ) -> Result<Result<(), Unimported>, Failure>
+        ensures goes_on { OnOk result (AddsOn self.old.added self.new.added) }
+        ensures came { IfOk result (λ answer. CameOf (segments found.now.path.bytes)
+            self.old.added.opened answer self.new.added.opened) }
+        ensures left { self.new.left_out ≡ self.old.left_out }
+    {
+        let entry = entry_of(found, content, meta)?;
         let clock = now(self.rt)?;
         match self.added.add(self.rt.alloc(), &entry, clock) {
             Ok(()) => Ok(Ok(())),
-            Err(Unimported::OutOfMemory | Unimported::Unfinished) => Err(AllocError.into()),
-            Err(why) => Ok(Err(why)),
+            Err(why) => Ok(Err(refusal_of(why)?)),
         }
     }
 
@@ -366,7 +466,9 @@ impl<'a> Importer<'a> {
         &mut self,
         folder: &Found,
         output: &mut BufWriter<O>,
-    ) -> Result<(), Failure> {
+    ) -> Result<(), Failure>
+        ensures { self.new.added ≡ self.old.added }
+    {
         let names = names_of(self.rt, folder.place.as_str())?;
         for name in &names {
             self.wait_for(folder, name, output)?;
@@ -379,7 +481,9 @@ impl<'a> Importer<'a> {
         folder: &Found,
         name: &[u8],
         output: &mut BufWriter<O>,
-    ) -> Result<(), Failure> {
+    ) -> Result<(), Failure>
+        ensures { self.new.added ≡ self.old.added }
+    {
         let alloc = self.rt.alloc();
         let child = folder.path.child(name);
         if let Err(ParseError::OutOfMemory) = child {
@@ -402,7 +506,10 @@ impl<'a> Importer<'a> {
         found: &Found,
         why: Unimported,
         output: &mut BufWriter<O>,
-    ) -> Result<(), Failure> {
+    ) -> Result<(), Failure>
+        ensures added { self.new.added ≡ self.old.added }
+        ensures left { OnOk result (LeavesOne self.old.left_out self.new.left_out) }
+    {
         let text = match why {
             Unimported::File => "a file stands there",
             Unimported::Folder => "a folder stands there",
@@ -419,7 +526,10 @@ impl<'a> Importer<'a> {
         found: &Found,
         why: &str,
         output: &mut BufWriter<O>,
-    ) -> Result<(), Failure> {
+    ) -> Result<(), Failure>
+        ensures added { self.new.added ≡ self.old.added }
+        ensures left { OnOk result (LeavesOne self.old.left_out self.new.left_out) }
+    {
         let told = told_path(self.rt.alloc(), &found.path)?;
         self.tell(told.as_str(), why, output)
     }
@@ -429,13 +539,19 @@ impl<'a> Importer<'a> {
         told: &str,
         why: &str,
         output: &mut BufWriter<O>,
-    ) -> Result<(), Failure> {
+    ) -> Result<(), Failure>
+        ensures added { self.new.added ≡ self.old.added }
+        ensures left { LeavesOne self.old.left_out self.new.left_out }
+    {
         self.left_out = self.left_out.saturating_add(1);
         writeln!(output, "{told}: {why}")?;
         Ok(())
     }
 
-    fn tell_progress(&mut self) {
+    fn tell_progress(&mut self)
+        ensures added { self.new.added ≡ self.old.added }
+        ensures left { self.new.left_out ≡ self.old.left_out }
+    {
         if !self.progress.is_due() {
             return;
         }

@@ -104,7 +104,7 @@ module _ {D B : Type 0} (seen : D → List ℕ) (may_leave : D → List ℕ → 
 
   -- something more was added, and nothing appended
   pub adds_on : (j : Journal D B) (a a' : Additions) → AddsOn a a' → ImportsOn seen may_leave is_clean j a j a'
-  adds_on j a a' on = λ records base from i. record i { added = on base from i.made i.added }
+  adds_on j a a' on = λ records base from i. record { made = i.made; settled = i.settled; added = on base from i.made i.added }
 
   pub on_join : (j k l : Journal D B) (a b c : Additions) → ImportsOn seen may_leave is_clean j a k b → ImportsOn seen may_leave is_clean k b l c → ImportsOn seen may_leave is_clean j a l c
   on_join j k l a b c one two = λ records base from i. two records base from (one records base from i)

@@ -54,6 +54,11 @@ adds_same a a' same = λ base from made h. subst (λ (b : Additions). HasAdded b
 pub adds_join : (a b c : Additions) → AddsOn a b → AddsOn b c → AddsOn a c
 adds_join a b c one two = λ base from made h. two base from made (one base from made h)
 
+-- something was added, and nothing behind it, whatever a call answers
+pub adds_then : {T E : Type 0} (r : Result T E) (a b c : Additions) → AddsOn a b → c ≡ b → OnOk r (AddsOn a c)
+adds_then (Ok x) a b c on same = adds_join a b c on (adds_same b c same)
+adds_then (Err e) a b c on same = tt
+
 -- what has no record yet, and counts none, begins an import
 pub adds_begin : (a : Additions) → Carries a.round [] → a.files + a.folders ≤ 0 → HasAdded a.opened.stores a.opened.last.0 [] a
 adds_begin a empty none = record { importing = imports_begin a.opened.stores a.opened.last.0 (Carries a.round) empty; counted = omega (arith, none) }
@@ -106,11 +111,24 @@ module _ {D B : Type 0} (seen : D → List ℕ) (may_leave : D → List ℕ → 
   pub adds_on : (j : Journal D B) (a a' : Additions) → AddsOn a a' → ImportsOn seen may_leave is_clean j a j a'
   adds_on j a a' on = λ records base from i. record { made = i.made; settled = i.settled; added = on base from i.made i.added }
 
+  pub on_same : (j : Journal D B) (a : Additions) → ImportsOn seen may_leave is_clean j a j a
+  on_same j a = λ records base from i. i
+
   pub on_join : (j k l : Journal D B) (a b c : Additions) → ImportsOn seen may_leave is_clean j a k b → ImportsOn seen may_leave is_clean k b l c → ImportsOn seen may_leave is_clean j a l c
   on_join j k l a b c one two = λ records base from i. two records base from (one records base from i)
 
   pub on_ends : (j k l : Journal D B) (a b c : Additions) (counts : Counts) → ImportsOn seen may_leave is_clean j a k b → EndsImport seen may_leave is_clean k b l c counts → EndsImport seen may_leave is_clean j a l c counts
   on_ends j k l a b c counts one ends = (ends.0, λ records base from i. ends.1 records base from (one records base from i))
+
+  -- by what a call answers
+  pub adds_if : {T E : Type 0} (r : Result T E) (j k : Journal D B) (a b c : Additions) → ImportsOn seen may_leave is_clean j a k b → OnOk r (AddsOn b c) → OnOk r (ImportsOn seen may_leave is_clean j a k c)
+  adds_if (Ok x) j k a b c on h = on_join j k k a b c on (adds_on k b c h)
+  adds_if (Err e) j k a b c on h = tt
+
+  pub ends_if : {E : Type 0} (r : Result Counts E) (j k l : Journal D B) (a b c : Additions) → ImportsOn seen may_leave is_clean j a k b → IfOk r (λ counts. EndsImport seen may_leave is_clean k b l c counts)
+      → IfOk r (λ counts. EndsImport seen may_leave is_clean j a l c counts)
+  ends_if (Ok counts) j k l a b c on h = on_ends j k l a b c counts on h
+  ends_if (Err e) j k l a b c on h = tt
 
   -- ---- an import into the stores that were read
 

@@ -16,3 +16,6 @@ returns-clause-came c =
     let old = c.args.self.now.added.opened in
     let came = came_not path old c.add.new.self.opened (moment_behind old.last.0 c.in_ok-clock.clock.0) (source_of c.in_ok-entry.entry) c.in-Err.why c.in_ok-entry.ensures c.in-Err.ensures.cause in
     subst (λ (why : Unimported). CameOf path old (Err why) c.add.new.self.opened) (sym c.in_ok-refusal_of-in-Err.ensures.0) came
+
+pub returns-clause-goes_on : goal.returns-clause-goes_on
+returns-clause-goes_on c = c.in-Err.ensures.left c.in_ok-refusal_of-in-Err.ensures.1

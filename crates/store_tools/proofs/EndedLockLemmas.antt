@@ -13,7 +13,7 @@ use Rattle.dav_notes_core.specs.Noting.{Noted}
 use Rattle.dav_notes_core.specs.Stepping.{AnsweredBy}
 use Rattle.store_tools.specs.declared.adding.Unimported.{Unimported}
 use Rattle.store_tools.specs.Adding.{RefusesBy}
-use Rattle.store_tools.specs.EndedLocks.{EndsStanding, ending_note, is_found_at, is_named, stands_with}
+use Rattle.store_tools.specs.EndedLocks.{EndsStanding, ending_note, is_found_at, is_live_with, stands_with}
 
 -- ---- one lock after another
 
@@ -33,14 +33,14 @@ pub record Passed (token : List ℕ) (now : ℕ) (all left : List Lock) : Type 0
 pub passes_none : (token : List ℕ) (now : ℕ) (all : List Lock) → Passed token now all all
 passes_none token now all = record { none = refl; within = λ test h. h }
 
-pub passes_one : (token : List ℕ) (now : ℕ) (all : List Lock) (l : Lock) (left : List Lock) → Passed token now all (l ∷ left) → is_named token now l ≡ false → Passed token now all left
+pub passes_one : (token : List ℕ) (now : ℕ) (all : List Lock) (l : Lock) (left : List Lock) → Passed token now all (l ∷ left) → is_live_with token now l ≡ false → Passed token now all left
 passes_one token now all l left p other = record {
   none = sym (ap (λ (b : Bool). b || stands_with token now left) other) ∙ p.none;
   within = λ test h. p.within test (any_more test now l left h);
 }
 
 -- the lock that is looked for is found at its own path
-pub finds_one : (token : List ℕ) (now : ℕ) (all : List Lock) (l : Lock) (left : List Lock) → Passed token now all (l ∷ left) → is_named token now l ≡ true → is_found_at (lock_path l) token now all ≡ true
+pub finds_one : (token : List ℕ) (now : ℕ) (all : List Lock) (l : Lock) (left : List Lock) → Passed token now all (l ∷ left) → is_live_with token now l ≡ true → is_found_at (lock_path l) token now all ≡ true
 finds_one token now all l left p named =
     let parts = and_parts (bytes_eq l.token token) (not (is_stale now l)) named in
     let here = and_from (bytes_eq l.token token) (is_front (lock_path l) (lock_path l)) parts.0 (is_front-refl (lock_path l)) in
@@ -94,10 +94,6 @@ unfolding found_token
 none_found locks path token h = none_from 0 locks path token (none_mapped (found_from 0 locks path token) h)
 
 -- ---- the request
-
-pub ends_standing : (s : Stores) (n : Noted) (now : ℕ) (principal : Option (List ℕ)) (path : Path) (token : List ℕ) → n ≡ ending_note now principal path token → is_found_at path token now s.locks ≡ true → EndsStanding s n
-ends_standing s n now principal path token is found =
-    subst (λ (m : Noted). EndsStanding s m) (sym is) (record { principal = principal; path = path; token = token; is = refl; found = found })
 
 -- no answer to it is a refusal
 not_refused : (s s' : Stores) (now : ℕ) (principal : Option (List ℕ)) (path : Path) (token : List ℕ) (x : Refusal) → is_found_at path token now s.locks ≡ true

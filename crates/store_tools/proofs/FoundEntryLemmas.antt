@@ -6,7 +6,7 @@ use Rattle.dav_store_core.specs.declared.opened.Opened.{Opened}
 use Rattle.store_tools.specs.declared.adding.Unimported.{Unimported}
 use Rattle.store_tools.specs.declared.adding.Unimported.TheVariants.{File, Folder, NoFolder, Locked, NoMoment, OutOfMemory, Unfinished}
 use Rattle.store_tools.specs.Adding.{FindsEntry, IsAdded, Refuses}
-use Rattle.store_tools.specs.FoundEntries.{AddsAt, CameOf, HasFolder, IsDealtWith, LeavesOne}
+use Rattle.store_tools.specs.FoundEntries.{AddsAt, CameOf, FolderStandsAt, IsDealtWith, LeavesOne}
 use Rattle.store_tools.specs.ImportedEntries.{Source}
 
 -- what was added, whatever its bytes are joined to

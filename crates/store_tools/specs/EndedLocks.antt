@@ -35,12 +35,12 @@ pub record IsEnded (s : Stores) (last clock : ℕ) (token : List ℕ) (s' : Stor
 -- ---- whether there is one
 
 -- the lock has this token, and has not expired at this moment
-abbrev pub is_named : List ℕ → ℕ → Lock → Bool
-is_named token now l = bytes_eq l.token token && not (is_stale now l)
+abbrev pub is_live_with : List ℕ → ℕ → Lock → Bool
+is_live_with token now l = bytes_eq l.token token && not (is_stale now l)
 
 -- a lock with this token stands at this moment
 abbrev pub stands_with : List ℕ → ℕ → List Lock → Bool
-stands_with token now locks = list_any (is_named token now) locks
+stands_with token now locks = list_any (is_live_with token now) locks
 
 -- at this path or above it a lock with this token stands at this moment
 abbrev pub is_found_at : Path → List ℕ → ℕ → List Lock → Bool

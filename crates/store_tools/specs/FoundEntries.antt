@@ -16,13 +16,13 @@ pub record AddsAt (path : Path) (old new : Opened) : Type 0 where
   pub added : IsAdded old.stores old.last.0 clock source new.stores new.last.0 (λ bytes. Unit {0})
 
 -- a folder stands at this path
-abbrev pub HasFolder : Path → Opened → Type 0
-HasFolder path o = FindsEntry (metadata o.stores.map path) (Err Folder)
+abbrev pub FolderStandsAt : Path → Opened → Type 0
+FolderStandsAt path o = FindsEntry (metadata o.stores.map path) (Err Folder)
 
 -- an entry at this path was added; or a folder stands there, which is why none was
 abbrev pub CameOf : Path → Opened → Result (Unit {0}) Unimported → Opened → Type 0
 CameOf path old (Ok x) new = AddsAt path old new
-CameOf path old (Err Folder) new = HasFolder path old
+CameOf path old (Err Folder) new = FolderStandsAt path old
 CameOf path old (Err _) new = Unit {0}
 
 -- one more is left out; the count ends at the greatest number
@@ -31,4 +31,4 @@ LeavesOne left left' = left' ≡ min (left + 1) (2 ^ 64 - 1)
 
 -- an entry at this path was added, or a folder stands there, or one more is left out
 abbrev pub IsDealtWith : Path → Opened → ℕ → Opened → ℕ → Type 0
-IsDealtWith path old left new left' = AddsAt path old new ⊎ (HasFolder path old ⊎ LeavesOne left left')
+IsDealtWith path old left new left' = AddsAt path old new ⊎ (FolderStandsAt path old ⊎ LeavesOne left left')

@@ -10,7 +10,7 @@ ghost use Rattle.dav_notes_core.specs.Noting.{note_of};
 ghost use Rattle.dav_notes_core.specs.Stepping.{Draws};
 ghost use Rattle.dav_notes_core.specs.PlayedNotes.{NotePlayed};
 ghost use Rattle.store_tools.specs.EndedLocks.{AnswersEnding, EndsStanding, IsEnded, ending_note};
-ghost use Rattle.store_tools.specs.EndedLocks.{is_found_at, is_named, stands_with};
+ghost use Rattle.store_tools.specs.EndedLocks.{is_found_at, is_live_with, stands_with};
 ghost use Rattle.store_tools.specs.ImportedEntries.{moment_behind};
 ghost use Rattle.store_tools.specs.declared.ending.Unended.TheVariants as why;
 
@@ -95,7 +95,7 @@ fn lock_with<'a>(stores: &'a Guarded, token: &str, now: Moment) -> Option<&'a Da
 
 // Whether the lock has this token, and has not expired at this moment.
 fn is_named(lock: &DavLock, token: &str, now: Moment) -> bool
-    ensures { result ≡ is_named token.now now.0 lock.now }
+    ensures { result ≡ is_live_with token.now now.0 lock.now }
 {
     lock.token.as_str() == token && !is_stale(lock, now)
 }

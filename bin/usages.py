@@ -12,7 +12,7 @@ It runs what was proved on this machine, or else the release in this repository.
   --sync always|second            when FILE has what is changed: before an answer tells of it, as without this; or once a second, so that a crash takes at most the last second's changes
   --compact-over BYTES            at the start FILE is written anew where it has more bytes than that, 67108864 without this,
   --compact-useless PERCENT       and where more than so many hundredths of it are of no use any more, 50 without this
-  --scheme http|https             the scheme by which clients come, where a proxy stands between
+  --scheme http|https             the scheme by which clients come, where a proxy stands between; https with --tls-cert, else http
   --prefix PATH                   the path that the folder stands at, as /dav
   --user-header NAME              the header in which a proxy names the user; without it all requests are one user
   --address-header NAME           the header in which a proxy tells where a client is, for --log and for the limits of guesses of --users; what stands behind the last comma of the last one counts
@@ -43,6 +43,8 @@ Of the listener in front of it (docs/OPERATIONS.md):
   --linger SECONDS                how long a connection that is over is still read, so that its last answer is seen; 5 without it
   --grace SECONDS                 how long what has begun goes on behind a first SIGTERM; 10 without it
   --memory BYTES                  how much the server may take, 0 for no limit; half of the machine's without it
+  --tls-cert FILE                 a certificate with its chain, in PEM: TLS is spoken at all addresses but unix sockets and ADDRESS:PORT,plain; several times, for several names; read again on SIGHUP
+  --tls-key FILE                  its key, in PEM, without a password; one for each --tls-cert, in the same order
 """,
     "davstore": """\
 usage: bin/davstore FILE check

@@ -1,19 +1,25 @@
 //! All clients: who is let in, what they are told, and who is late.
 use crate::client::{Client, Sent};
 use crate::frames::{self, Line};
+use crate::openssl::Contexts;
 use crate::poll::Poll;
 use crate::program::{FromProgram, ToProgram, Told};
+use crate::refusals::Refusals;
 use crate::system::{self, ERROR, HANG_UP, IN, OUT};
 use crate::times::{Late, Limits, Turn};
 use std::collections::HashMap;
 use std::io;
 use std::net::{IpAddr, Ipv6Addr, TcpStream};
 use std::os::unix::io::AsRawFd;
+use std::rc::Rc;
 
+const CROWDED: &str = "it has as many as one address may (--connections-per-address)";
 /// The keys of clients begin here; those below are of other files.
 pub const FIRST_KEY: u64 = 1024;
 /// A client that has rested for so many milliseconds may be closed to let another in.
 const RESTED: u64 = 1000;
+/// So many steps of handshakes are made in a turn, each of which may take a millisecond: whoever has done theirs waits no longer than that.
+const SHAKES: usize = 4;
 /// So much lies unsent in the kernel at most, beyond what is on its way.
 const UNSENT: i32 = 128 * 1024;
 
@@ -30,6 +36,10 @@ pub struct Clients {
     by_number: HashMap<u64, u64>,
     by_place: HashMap<IpAddr, usize>,
     paused: Vec<u64>,
+    /// Who is heard again in the next turn, though no socket tells of it; and how many steps of handshakes are still made in this one.
+    ready: Vec<u64>,
+    shakes: usize,
+    pub refusals: Refusals,
     next_key: u64,
     is_stopping: bool,
     /// Whether the program has asked for more.
@@ -59,6 +69,9 @@ impl Clients {
             by_number: HashMap::new(),
             by_place: HashMap::new(),
             paused: Vec::new(),
+            ready: Vec::new(),
+            shakes: SHAKES,
+            refusals: Refusals::default(),
             next_key: FIRST_KEY,
             is_stopping: false,
             is_asked: false,
@@ -76,14 +89,14 @@ impl Clients {
 
     // ---- Who comes and goes.
 
-    pub fn admit(&mut self, socket: TcpStream, address: Option<IpAddr>) {
+    /// With certificates it speaks TLS.
+    pub fn admit(&mut self, socket: TcpStream, address: Option<IpAddr>, contexts: Option<Rc<Contexts>>) {
         let place = address.map(place_of);
-        let count = place.and_then(|it| self.by_place.get(&it)).copied().unwrap_or(0);
-        if count >= self.most_from_one {
-            return;
+        if self.is_crowded(place) {
+            return self.refusals.note(address, CROWDED, self.now);
         }
         let key = self.next_key;
-        if place.is_some() {
+        if address.is_some() {
             // These make it quicker, and take less memory; it works without them.
             let _ = socket.set_nodelay(true);
             let _ = system::set_option(&socket, system::USER_TIMEOUT, self.limits.stall.min(1 << 30) as i32);
@@ -94,9 +107,14 @@ impl Clients {
         }
         self.next_key += 1;
         place.map(|it| *self.by_place.entry(it).or_insert(0) += 1);
-        let mut client = Client::new(socket, address, self.window, self.now);
+        let mut client = Client::new(socket, contexts, address, self.window, self.now);
         client.armed = IN;
+        client.place = place;
         self.by_key.insert(key, client);
+    }
+
+    fn is_crowded(&self, place: Option<IpAddr>) -> bool {
+        place.and_then(|it| self.by_place.get(&it)).map_or(false, |count| *count >= self.most_from_one)
     }
 
     /// Closes whoever has rested longest, and long enough; first those that are over, then those that never sent anything. Whether there was one.
@@ -107,9 +125,10 @@ impl Clients {
     }
 
     fn close(&mut self, key: u64) {
-        if let Some(client) = self.by_key.remove(&key) {
+        if let Some(mut client) = self.by_key.remove(&key) {
+            let _ = client.wire.say_end();
             client.number.map(|number| self.by_number.remove(&number));
-            if let Some(place) = client.address.map(place_of) {
+            if let Some(place) = client.place {
                 match self.by_place.get_mut(&place) {
                     Some(count) if *count > 1 => *count -= 1,
                     _ => drop(self.by_place.remove(&place)),
@@ -158,11 +177,29 @@ impl Clients {
         if events & ERROR != 0 {
             return self.lose(key);
         }
+        // TLS may have to write before it can read on.
+        let writes = events & OUT != 0 && self.by_key.get(&key).map_or(false, |client| client.wire.wants() & OUT != 0);
         if events & OUT != 0 {
             self.send(key);
         }
-        if events & (IN | HANG_UP) != 0 {
+        if events & (IN | HANG_UP) != 0 || writes {
             self.hear(key, events & HANG_UP != 0);
+        }
+    }
+
+    /// Begins a turn; whether something is to be heard that no socket tells of.
+    pub fn begin_turn(&mut self) -> bool {
+        self.shakes = SHAKES;
+        !self.ready.is_empty()
+    }
+
+    /// Hears those of whom more has come than their sockets tell.
+    pub fn hear_ready(&mut self) {
+        for key in std::mem::take(&mut self.ready) {
+            if let Some(client) = self.by_key.get_mut(&key) {
+                client.is_ready = false;
+                self.hear(key, false);
+            }
         }
     }
 
@@ -171,6 +208,13 @@ impl Clients {
             Some(client) => client,
             None => return,
         };
+        if client.wire.is_shaking() && !client.lingers() {
+            if self.shakes == 0 {
+                // The poll tells of it again.
+                return;
+            }
+            self.shakes -= 1;
+        }
         if client.lingers() {
             if client.drain() || has_hung_up {
                 self.close(key);
@@ -191,6 +235,10 @@ impl Clients {
             (Ok(Sent::Bytes), Some(number)) if !is_known => drop(self.by_number.insert(number, key)),
             (Ok(Sent::Bytes), _) => {}
             (Ok(Sent::Nothing), _) if !has_hung_up => {}
+            (Err(error), None) if !client.wire.is_plain() => {
+                self.refusals.note(client.address, &format!("TLS: {}", error), self.now);
+                return self.lose(key);
+            }
             _ => return self.lose(key),
         }
         self.arm(key);
@@ -209,7 +257,7 @@ impl Clients {
     /// Once all was sent to a connection that is over, it is finished.
     fn settle(&mut self, key: u64) {
         if let Some(client) = self.by_key.get_mut(&key) {
-            if client.is_over && !client.lingers() && client.waits_for_nothing() && client.finish(self.now) {
+            if client.is_over && !client.lingers() && client.has_all() && client.finish(self.now) {
                 return self.close(key);
             }
             self.arm(key);
@@ -218,10 +266,14 @@ impl Clients {
 
     fn arm(&mut self, key: u64) {
         if let Some(client) = self.by_key.get_mut(&key) {
-            let wanted = if client.is_read() { IN } else { 0 } | if client.waits_for_nothing() { 0 } else { OUT };
+            if client.is_read() && client.wire.has_more() && !client.is_ready {
+                client.is_ready = true;
+                self.ready.push(key);
+            }
+            let wanted = client.wanted();
             if wanted != client.armed {
                 client.armed = wanted;
-                if self.poll.change(client.socket.as_raw_fd(), wanted, key).is_err() {
+                if self.poll.change(client.wire.socket.as_raw_fd(), wanted, key).is_err() {
                     self.lose(key);
                 }
             }
@@ -265,10 +317,10 @@ impl Clients {
         let key = from.long_piece().and_then(|number| self.by_number.get(&number).copied());
         let found = key.and_then(|key| Some((key, self.by_key.get_mut(&key)?)));
         let (key, client) = match found {
-            Some((key, client)) if client.waits_for_nothing() => (key, client),
+            Some((key, client)) if client.waits_for_nothing() && client.wire.is_plain() => (key, client),
             _ => return false,
         };
-        match from.move_to(&client.socket) {
+        match from.move_to(&client.wire.socket) {
             Ok(count) if count > 0 => client.was_sent(count, self.now),
             // What doesn't go this way is read: then it is known why.
             _ => return false,
@@ -322,6 +374,7 @@ impl Clients {
 
     /// Sends away who is late; and those that rest, once the listener is to stop.
     pub fn look_at_times(&mut self) {
+        self.refusals.tell(self.now);
         let late = |client: &Client| {
             let ends = self.is_stopping && client.is_at_rest();
             client.late(&self.limits, self.now).or_else(|| Some(Late::Sends).filter(|_| ends))
@@ -347,5 +400,5 @@ impl Clients {
 
 /// A failed call that has no remedy but to wait: there are too many files, or there is no memory.
 pub fn is_want(error: &io::Error) -> bool {
-    matches!(error.raw_os_error(), Some(12 | 23 | 24 | 105))
+    error.raw_os_error().map_or(false, |it| system::WANTS.contains(&it))
 }

@@ -258,6 +258,15 @@ class Program:
             self.is_open = bool(piece)
             self.input += piece
 
+    def end_unheard(self):
+        """The listener has ended, and reads nothing more: what it wrote before is still looked at."""
+        while self.is_open:
+            self.read()
+            for words, piece in self.frames():
+                self.take(words, piece)
+        if not self.input:
+            self.tell_left()
+
     def run(self):
         while self.is_open:
             self.read()
@@ -270,8 +279,15 @@ class Program:
             if not self.asked and self.is_open and self.is_ready and self.random.random() < 0.3:
                 self.asked = 1
                 self.output += b"more\n"
-            self.write()
+            try:
+                self.write()
+            except BrokenPipeError:
+                self.end_unheard()
+                raise
         self.check(not self.input, "the end within a frame")
+        self.tell_left()
+
+    def tell_left(self):
         print("left", sum(not it.is_over and not it.is_gone for it in self.connections.values()), file=sys.stderr, flush=True)
 
 

@@ -104,3 +104,11 @@ int close(int file) {
         errno = wrong;
     return fail ? -1 : (int)closed;
 }
+
+// It tells that it fails by null.
+void *dlopen(const char *path, int flags) {
+    static void *(*real)(const char *, int);
+    if (!real)
+        real = (void *(*)(const char *, int))dlsym(RTLD_NEXT, "dlopen");
+    return fails("dlopen") ? NULL : real(path, flags);
+}

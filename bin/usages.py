@@ -45,6 +45,7 @@ Of the listener in front of it (docs/OPERATIONS.md):
   --memory BYTES                  how much the server may take, 0 for no limit; half of the machine's without it
   --tls-cert FILE                 a certificate with its chain, in PEM: TLS is spoken at all addresses but unix sockets and ADDRESS:PORT,plain; several times, for several names; read again on SIGHUP
   --tls-key FILE                  its key, in PEM, without a password; one for each --tls-cert, in the same order
+  --proxy-protocol ADDRESSES      each connection from there (addresses, networks as 10.0.0.0/8, or unix, with commas between) begins with a header of the PROXY protocol, version 2, which tells where its client is; not with --user-header or --address-header
 """,
     "davstore": """\
 usage: bin/davstore FILE check

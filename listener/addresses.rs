@@ -71,7 +71,7 @@ pub fn unix_bytes(path: &Path) -> io::Result<Vec<u8>> {
 }
 
 /// A client of IPv4 that comes to a socket of IPv6, as a handed one may be, has its own address all the same.
-fn plain(address: IpAddr) -> IpAddr {
+pub fn plain(address: IpAddr) -> IpAddr {
     match address {
         IpAddr::V6(it) => it.to_ipv4_mapped().map_or(address, IpAddr::V4),
         IpAddr::V4(_) => address,

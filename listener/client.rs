@@ -1,7 +1,9 @@
 //! One client: its socket, what waits for it, and how far it may send.
 use crate::frames;
 use crate::openssl::Contexts;
+use crate::places::Place;
 use crate::program::{ToProgram, PIECE};
+use crate::proxied::Header;
 use crate::system::{IN, OUT};
 use crate::times::{Late, Limits, Times, Turn};
 use crate::wire::Wire;
@@ -17,7 +19,9 @@ pub struct Client {
     /// Where it comes from; none where that is a unix socket.
     pub address: Option<IpAddr>,
     /// The place that it counts for, once that is known.
-    pub place: Option<IpAddr>,
+    pub place: Option<Place>,
+    /// What its proxy tells of it, until that is whole.
+    pub header: Option<Box<Header>>,
     /// Of its frames; none before the first.
     pub number: Option<u64>,
     /// Whether it may still send: its end has not come, nor was it given one.
@@ -63,6 +67,7 @@ impl Client {
             wire: Wire::new(socket, contexts),
             address,
             place: None,
+            header: None,
             number: None,
             hears: true,
             has_ended: false,

@@ -2,14 +2,16 @@
 use crate::client::{Client, Sent};
 use crate::frames::{self, Line};
 use crate::openssl::Contexts;
+use crate::places::{Place, Places};
 use crate::poll::Poll;
 use crate::program::{FromProgram, ToProgram, Told};
+use crate::proxied::{Header, Proxies, Told as Introduced};
 use crate::refusals::Refusals;
 use crate::system::{self, ERROR, HANG_UP, IN, OUT};
 use crate::times::{Late, Limits, Turn};
 use std::collections::HashMap;
 use std::io;
-use std::net::{IpAddr, Ipv6Addr, TcpStream};
+use std::net::{IpAddr, TcpStream};
 use std::os::unix::io::AsRawFd;
 use std::rc::Rc;
 
@@ -27,14 +29,14 @@ pub struct Clients {
     pub poll: Poll,
     pub to: ToProgram,
     pub limits: Limits,
-    /// How many there may be, and from one place.
+    /// How many there may be.
     most: usize,
-    most_from_one: usize,
+    places: Places,
+    proxies: Proxies,
     window: u64,
     by_key: HashMap<u64, Client>,
-    /// The keys of those that have begun and aren't over, by their numbers; how many come from a place; and who waits until the program takes more.
+    /// The keys of those that have begun and aren't over, by their numbers; and who waits until the program takes more.
     by_number: HashMap<u64, u64>,
-    by_place: HashMap<IpAddr, usize>,
     paused: Vec<u64>,
     /// Who is heard again in the next turn, though no socket tells of it; and how many steps of handshakes are still made in this one.
     ready: Vec<u64>,
@@ -48,26 +50,18 @@ pub struct Clients {
     pub now: u64,
 }
 
-/// Where a client comes from, as it is counted: all of a network of IPv6 count as one.
-fn place_of(address: IpAddr) -> IpAddr {
-    match address {
-        IpAddr::V4(_) => address,
-        IpAddr::V6(it) => IpAddr::V6(Ipv6Addr::from(u128::from(it) >> 64 << 64)),
-    }
-}
-
 impl Clients {
-    pub fn new(poll: Poll, limits: Limits, most: (usize, usize), window: u64) -> Clients {
+    pub fn new(poll: Poll, limits: Limits, most: (usize, usize), window: u64, proxies: Proxies) -> Clients {
         Clients {
             poll,
             to: ToProgram::new(),
             limits,
             most: most.0,
-            most_from_one: most.1,
+            places: Places::new(most.1),
+            proxies,
             window,
             by_key: HashMap::new(),
             by_number: HashMap::new(),
-            by_place: HashMap::new(),
             paused: Vec::new(),
             ready: Vec::new(),
             shakes: SHAKES,
@@ -91,8 +85,9 @@ impl Clients {
 
     /// With certificates it speaks TLS.
     pub fn admit(&mut self, socket: TcpStream, address: Option<IpAddr>, contexts: Option<Rc<Contexts>>) {
-        let place = address.map(place_of);
-        if self.is_crowded(place) {
+        let is_proxy = self.proxies.has(address);
+        let place = address.map(Place::of).filter(|_| !is_proxy);
+        if self.places.is_full(place) {
             return self.refusals.note(address, CROWDED, self.now);
         }
         let key = self.next_key;
@@ -106,15 +101,47 @@ impl Clients {
             return;
         }
         self.next_key += 1;
-        place.map(|it| *self.by_place.entry(it).or_insert(0) += 1);
+        self.places.enter(place);
         let mut client = Client::new(socket, contexts, address, self.window, self.now);
         client.armed = IN;
         client.place = place;
+        client.header = Some(Box::<Header>::default()).filter(|_| is_proxy);
         self.by_key.insert(key, client);
     }
 
-    fn is_crowded(&self, place: Option<IpAddr>) -> bool {
-        place.and_then(|it| self.by_place.get(&it)).map_or(false, |count| *count >= self.most_from_one)
+    /// Reads what has come of a header; whether that has told of its client.
+    fn is_introduced(&mut self, key: u64) -> bool {
+        let (header, wire, proxy) = match self.by_key.get_mut(&key) {
+            Some(Client { header: Some(header), wire, address, .. }) => (header, wire, *address),
+            _ => return false,
+        };
+        match header.read(&mut wire.socket) {
+            Ok(None) => return false,
+            Ok(Some(told)) => {
+                let address = if let Introduced::Client(address) = told { address } else { None };
+                let place = address.map(Place::of);
+                if !self.places.is_full(place) {
+                    self.introduce(key, told, place);
+                    return true;
+                }
+                self.refusals.note(address, CROWDED, self.now);
+            }
+            // A proxy that only looks whether someone is there.
+            Err(_) if header.is_empty() => {}
+            Err(error) => self.refusals.note(proxy, &format!("a proxy: {} (--proxy-protocol)", error), self.now),
+        }
+        self.lose(key);
+        false
+    }
+
+    fn introduce(&mut self, key: u64, told: Introduced, place: Option<Place>) {
+        if let Some(client) = self.by_key.get_mut(&key) {
+            client.header = None;
+            if let Introduced::Client(address) = told {
+                (client.address, client.place) = (address, place);
+                self.places.enter(place);
+            }
+        }
     }
 
     /// Closes whoever has rested longest, and long enough; first those that are over, then those that never sent anything. Whether there was one.
@@ -128,12 +155,7 @@ impl Clients {
         if let Some(mut client) = self.by_key.remove(&key) {
             let _ = client.wire.say_end();
             client.number.map(|number| self.by_number.remove(&number));
-            if let Some(place) = client.place {
-                match self.by_place.get_mut(&place) {
-                    Some(count) if *count > 1 => *count -= 1,
-                    _ => drop(self.by_place.remove(&place)),
-                }
-            }
+            self.places.leave(client.place);
         }
     }
 
@@ -205,7 +227,12 @@ impl Clients {
 
     fn hear(&mut self, key: u64, has_hung_up: bool) {
         let client = match self.by_key.get_mut(&key) {
-            Some(client) => client,
+            Some(client) if client.header.is_none() => client,
+            Some(_) => {
+                return if self.is_introduced(key) {
+                    self.hear(key, has_hung_up)
+                }
+            }
             None => return,
         };
         if client.wire.is_shaking() && !client.lingers() {

@@ -1,5 +1,6 @@
 //! The words of the command line.
 use crate::fault::Fault;
+use crate::proxied::Proxies;
 use crate::times::Limits;
 use std::ffi::OsString;
 use std::path::PathBuf;
@@ -27,9 +28,11 @@ Listens for clients, runs the program, and moves their bytes to it and back, in 
                                   chain, in PEM; several times, each with a --tls-key; a client gets the first one with the name that it
                                   asks for, else the first. Read again on SIGHUP
   --tls-key FILE                  its key, in PEM, without a password
+  --proxy-protocol ADDRESSES      each connection from there (addresses, networks as 10.0.0.0/8, or unix, with commas between) begins with a
+                                  header of the PROXY protocol, version 2, which tells where its client is
 ";
 
-fn is_numeral(word: &str) -> bool {
+pub fn is_numeral(word: &str) -> bool {
     !word.is_empty() && word.bytes().all(|byte| byte.is_ascii_digit())
 }
 
@@ -53,6 +56,7 @@ pub struct Options {
     pub users: Option<PathBuf>,
     /// Files of certificates, with those of their keys.
     pub certificates: Vec<(PathBuf, PathBuf)>,
+    pub proxies: Proxies,
     pub program: Vec<OsString>,
 }
 
@@ -69,6 +73,7 @@ impl Options {
             window: 262_144,
             users: None,
             certificates: Vec::new(),
+            proxies: Proxies::default(),
             program: Vec::new(),
         }
     }
@@ -98,19 +103,38 @@ impl Options {
             options.connections_per_address = (options.connections / 2).max(1);
         }
         options.program = words.collect();
-        if options.program.is_empty() {
+        options.check_program()?;
+        Ok(options)
+    }
+
+    /// Whether the program has this word.
+    pub fn program_has(&self, name: &str) -> bool {
+        self.program.iter().any(|word| word == name)
+    }
+
+    fn check_program(&self) -> Result<(), Fault> {
+        if self.program.is_empty() {
             return Err(Fault::words(format_args!("there is no program")));
         }
-        if options.users.is_some() && !options.program.iter().any(|word| word == "--login") {
+        if self.users.is_some() && !self.program_has("--login") {
             return Err(Fault::words(format_args!("--users: the program has no --login, and so would let in whoever comes")));
         }
-        Ok(options)
+        let written = ["--address-header", "--user-header"].into_iter().find(|name| self.program_has(name));
+        match written {
+            Some(name) if !self.proxies.is_empty() => {
+                Err(Fault::words(format_args!("--proxy-protocol: not with {}, which clients then write themselves", name)))
+            }
+            _ => Ok(()),
+        }
     }
 
     fn set(&mut self, name: &str, value: &str) -> Result<(), Fault> {
         if name == "--listen" {
             self.addresses.push(value.into());
             return Ok(());
+        }
+        if name == "--proxy-protocol" {
+            return self.proxies.add(value);
         }
         if name == "--users" && !value.is_empty() {
             self.users = Some(value.into());
@@ -168,6 +192,7 @@ mod tests {
             ["", "80", "--idle 3", "--idle x program", "--idle 0 program", "--idle", "--none 1 program", "--rate -1 p", "--users a p"]
                 .into_iter()
                 .chain(["--tls-cert a p", "--tls-key a p", "--tls-cert a --tls-cert b --tls-key c p"])
+                .chain(["--proxy-protocol x p", "--proxy-protocol unix p --user-header a", "--proxy-protocol unix p --address-header a"])
         {
             assert!(read(words).is_err(), "{}", words);
         }

@@ -17,6 +17,10 @@ impl Telling {
             lines.push(format!("the program may take {} MB of memory (--memory)", memory / 1_000_000));
         }
         lines.extend(dangers(options, &names(listeners, Listener::is_open), &names(listeners, |it| it.is_open() && !it.speaks_tls)));
+        let elsewhere = options.proxies.elsewhere();
+        if !elsewhere.is_empty() {
+            lines.push(format!("whoever is at {} can say to be at any address (--proxy-protocol)", elsewhere.join(" ")));
+        }
         Telling { urls: listeners.iter().map(Listener::name).collect(), lines }
     }
 
@@ -40,7 +44,7 @@ fn names(listeners: &[Listener], is_told: fn(&Listener) -> bool) -> String {
 
 /// What everyone can do who reaches the open addresses, of which some speak no TLS.
 fn dangers(options: &Options, open: &str, plain: &str) -> Vec<String> {
-    let has = |name: &str| options.program.iter().any(|word| word == name);
+    let has = |name: &str| options.program_has(name);
     let mut lines = Vec::new();
     if open.is_empty() {
         return lines;

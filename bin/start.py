@@ -11,6 +11,7 @@ import sys
 
 sys.dont_write_bytecode = True
 import builds
+import certificates
 import proving
 from repository import LISTENER, TOP, tell
 from usages import HELP
@@ -125,6 +126,8 @@ def main(program, words):
     elif words == ["--prove"]:
         others = [LISTENER] if program == "davserve" else []
         sys.exit(not all([prove(it) for it in (*others, program)]))
+    elif program == "davserve" and words[:1] == ["--make-cert"]:
+        sys.exit(certificates.make(words[1:]))
     elif program == "davserve":
         listen = place_of(LISTENER)
         before, behind = parted(words)

@@ -3,6 +3,7 @@
 HELP = {
     "davserve": """\
 usage: bin/davserve [PORT] [OPTION VALUE].. [--read-only] [--existing]
+       bin/davserve --make-cert NAME[,NAME..] DIR
 
 Serves a WebDAV folder on 127.0.0.1 at PORT, else 8080 (0: any that is free), and prints its URL once it serves. With --store a file keeps it; else it is empty at first, and gone when it ends.
 It runs what was proved on this machine, or else the release in this repository. A first SIGTERM or interrupt lets what has begun go on for a while, a second ends it at once.
@@ -28,6 +29,7 @@ It runs what was proved on this machine, or else the release in this repository.
   --unfinished BYTES              the most bytes of requests that have not come whole, of all clients; 268435456 without it
   --seed NUMBER                   for tests: the seed of the tokens of locks
   --clock NANOSECONDS|frames      for tests: the moment at which the clock stands
+  --make-cert NAME[,NAME..] DIR   makes a certificate of its own for these names or addresses, and its key, for --tls-cert and --tls-key: cert.pem and key.pem in DIR, which is made where it isn't there
   --prove                         proves and builds it here, and compares its bytes with those of the release
   --path                          prints where the program stands that is run; nothing is proved for it
   --help, --version               this text; what is run, and what it needs

@@ -5,6 +5,7 @@ use crate::system;
 use std::env;
 use std::fs::{remove_file, set_permissions, Permissions};
 use std::io;
+use std::iter::repeat;
 use std::net::{IpAddr, SocketAddr, TcpListener, TcpStream, ToSocketAddrs};
 use std::os::unix::ffi::OsStrExt;
 use std::os::unix::fs::PermissionsExt;
@@ -106,11 +107,11 @@ impl Listener {
     }
 
     /// A socket of either kind.
-    fn of(socket: OwnedFd, has_certificates: bool) -> io::Result<Listener> {
+    fn of(socket: OwnedFd, speaks_tls: bool) -> io::Result<Listener> {
         system::control(&socket, system::BEHAVIOUR, system::NON_BLOCKING)?;
         let listener = TcpListener::from(socket);
         match listener.local_addr() {
-            Ok(_) => Ok(Listener { socket: Socket::Internet(listener), speaks_tls: has_certificates }),
+            Ok(_) => Ok(Listener { socket: Socket::Internet(listener), speaks_tls }),
             Err(_) => Ok(Listener { socket: Socket::Unix(UnixListener::from(OwnedFd::from(listener)), None), speaks_tls: false }),
         }
     }
@@ -195,14 +196,20 @@ fn open_unix(path: &Path, mode: u32) -> io::Result<Socket> {
 /// The first one that is handed over.
 const FIRST_HANDED: RawFd = 3;
 
-/// The sockets that are handed over, as systemd does it: LISTEN_FDS of them for the process LISTEN_PID.
+/// TLS is not spoken where it has this name.
+const PLAIN: &str = "plain";
+
+/// The sockets that are handed over, as systemd does it: LISTEN_FDS of them for the process LISTEN_PID, with the names LISTEN_FDNAMES.
 pub fn handed_over(has_certificates: bool) -> Result<Vec<Listener>, Fault> {
     let number = |name| env::var(name).ok().and_then(|word| word.parse::<RawFd>().ok());
     if number("LISTEN_PID") != Some(std::process::id() as RawFd) {
         return Ok(Vec::new());
     }
     let count = number("LISTEN_FDS").unwrap_or(0);
-    let taken = (FIRST_HANDED..FIRST_HANDED + count).map(|file| Listener::of(system::handed_over(file)?, has_certificates));
+    let names = env::var("LISTEN_FDNAMES").unwrap_or_default();
+    let is_plain = names.split(':').map(|name| name == PLAIN).chain(repeat(false));
+    let files = (FIRST_HANDED..FIRST_HANDED + count).zip(is_plain);
+    let taken = files.map(|(file, is_plain)| Listener::of(system::handed_over(file)?, has_certificates && !is_plain));
     let all: io::Result<Vec<_>> = taken.collect();
     all.map_err(|error| Fault::new(NO_ADDRESS, format_args!("a socket that is handed over: {}", error)))
 }

@@ -236,6 +236,11 @@ impl Clients {
             None => return,
         };
         if client.wire.is_shaking() && !client.lingers() {
+            if client.wire.refuses_http() {
+                self.refusals.note(client.address, "it speaks HTTP without TLS", self.now);
+                client.is_over = true;
+                return self.settle(key);
+            }
             if self.shakes == 0 {
                 // The poll tells of it again.
                 return;

@@ -48,6 +48,8 @@ const NO_ACK: c_int = 3;
 /// The protocols that are spoken, as ALPN has them; the first one that a client speaks is chosen.
 const PROTOCOLS: [&[u8]; 2] = [b"http/1.1", b"http/1.0"];
 
+const SECONDS_OF_DAY: i64 = 24 * 60 * 60;
+
 /// So many bytes are the keys of tickets.
 pub const TICKET_KEYS: usize = 80;
 
@@ -115,7 +117,7 @@ library! {
     ERR_reason_error_string: fn(c_ulong) -> *const c_char;
     X509_check_host: fn(Pointer, *const c_char, usize, c_uint, *mut *mut c_char) -> c_int;
     X509_get0_notAfter: fn(Pointer) -> Pointer;
-    X509_cmp_current_time: fn(Pointer) -> c_int;
+    ASN1_TIME_diff: fn(*mut c_int, *mut c_int, Pointer, Pointer) -> c_int;
 }
 
 impl Library {
@@ -227,13 +229,15 @@ impl Context {
         Ok(())
     }
 
-    fn is_over(&self) -> bool {
-        // SAFETY: `take` gave it a certificate, whose times are its own.
-        unsafe {
-            (self.library.X509_cmp_current_time)((self.library.X509_get0_notAfter)((self.library.SSL_CTX_get0_certificate)(
-                self.context.as_ptr(),
-            ))) < 0
-        }
+    fn seconds_left(&self) -> Option<i64> {
+        let (mut days, mut seconds) = (0, 0);
+        // SAFETY: `take` gave it a certificate, whose times are its own. Null stands for this moment, and both numbers are written within the call.
+        let is_told = unsafe {
+            let certificate = (self.library.SSL_CTX_get0_certificate)(self.context.as_ptr());
+            (self.library.ASN1_TIME_diff)(&mut days, &mut seconds, null_mut(), (self.library.X509_get0_notAfter)(certificate)) == 1
+        };
+        self.library.clear();
+        Some(i64::from(days) * SECONDS_OF_DAY + i64::from(seconds)).filter(|_| is_told)
     }
 }
 
@@ -262,9 +266,9 @@ impl Contexts {
         self.all[0].control(CTRL_SET_TICKET_KEYS, TICKET_KEYS as c_long, keys.as_mut_ptr().cast());
     }
 
-    /// The places of those certificates whose time is over.
-    pub fn over(&self) -> Vec<usize> {
-        (0..self.all.len()).filter(|at| self.all[*at].is_over()).collect()
+    /// For how many seconds each certificate is still valid, where that can be said.
+    pub fn seconds_left(&self) -> Vec<Option<i64>> {
+        self.all.iter().map(Context::seconds_left).collect()
     }
 }
 

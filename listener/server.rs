@@ -182,8 +182,11 @@ impl Server {
         let is_asked = self.clients.is_asked;
         let next = if self.from.is_none() { self.ticks.min(self.due) } else { self.ticks };
         let hears = self.clients.begin_turn();
-        let time = if is_asked || hears { 0 } else { next.saturating_sub(self.clients.now) as i32 };
-        let time = if self.is_idle() && !is_asked { -1 } else { time };
+        let time = match is_asked || hears {
+            true => 0,
+            false if self.is_idle() => self.certificates.as_ref().map_or(-1, |it| it.due().saturating_sub(self.clients.now) as i32),
+            false => next.saturating_sub(self.clients.now) as i32,
+        };
         let count = self.clients.poll.wait(events, time).map_err(|error| End::Failed("waiting", error))?;
         self.clients.now = self.began.elapsed().as_millis() as u64;
         for event in &events[..count] {
@@ -203,10 +206,10 @@ impl Server {
         if self.clients.now >= self.ticks {
             self.ticks = self.clients.now + TICK;
             self.clients.look_at_times();
-            let now = self.clients.now;
-            self.certificates.iter_mut().for_each(|it| it.turn_keys(now));
             self.write_out()?;
         }
+        let now = self.clients.now;
+        self.certificates.iter_mut().for_each(|it| it.look(now));
         if !self.listens && self.stops.is_none() && self.clients.now >= self.listens_again {
             self.listen(true)?;
         }

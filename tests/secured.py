@@ -19,9 +19,9 @@ class Files:
     def path(self, name):
         return os.path.join(self.folder, name)
 
-    def make(self, name, names, kind):
+    def make(self, name, names, kind, days=20):
         key = ["rsa:2048"] if kind == "rsa" else ["ec", "-pkeyopt", "ec_paramgen_curve:P-256"]
-        subprocess.run(["openssl", "req", "-x509", "-newkey", *key, "-nodes", "-days", "2", "-subj", f"/CN={name}", "-addext", f"subjectAltName={names}", "-keyout", self.path(f"{name}.key"), "-out", self.path(f"{name}.pem")], stderr=subprocess.DEVNULL, check=True)
+        subprocess.run(["openssl", "req", "-x509", "-newkey", *key, "-nodes", "-days", str(days), "-subj", f"/CN={name}", "-addext", f"subjectAltName={names}", "-keyout", self.path(f"{name}.key"), "-out", self.path(f"{name}.pem")], stderr=subprocess.DEVNULL, check=True)
 
     def words(self, *names):
         return [word for name in names or ("one",) for word in ("--tls-cert", self.path(f"{name}.pem"), "--tls-key", self.path(f"{name}.key"))]

@@ -37,7 +37,7 @@ It runs what was proved on this machine, or else the release in this repository.
 Of the listener in front of it (docs/OPERATIONS.md):
   --listen ADDRESS:PORT           where to listen, several times: IPv4, [IPv6], a name, unix:PATH or unix:PATH,mode=660 (600 without it)
   --connections COUNT             the most clients at a time; 1000 without it
-  --connections-per-address COUNT the most of them from one address, or one network of IPv6; half of them without it
+  --connections-per-address COUNT the most of them from one address, or one network of IPv6; a quarter of them without it
   --idle SECONDS                  how long a client may rest between requests; 120 without it
   --head SECONDS                  how long it may take to send a request; 20 without it
   --rate BYTES                    each so many bytes of a request give it a second more; 500 without it

@@ -1,16 +1,15 @@
 //! Where clients are let in: addresses of IPv4 and IPv6, sockets of Unix, and sockets that whoever started this process hands over.
 use crate::fault::{Fault, NO_ADDRESS};
 use crate::options::read_port;
+use crate::sockets::{open_unix, OwnFile};
 use crate::system;
 use std::env;
-use std::fs::{remove_file, set_permissions, Permissions};
 use std::io;
 use std::iter::repeat;
 use std::net::{IpAddr, SocketAddr, TcpListener, TcpStream, ToSocketAddrs};
 use std::os::unix::ffi::OsStrExt;
-use std::os::unix::fs::PermissionsExt;
 use std::os::unix::io::{AsRawFd, OwnedFd, RawFd};
-use std::os::unix::net::{UnixListener, UnixStream};
+use std::os::unix::net::UnixListener;
 use std::path::{Path, PathBuf};
 
 #[derive(Clone, Debug, PartialEq)]
@@ -50,25 +49,28 @@ pub fn read(word: &str) -> Result<Vec<Address>, Fault> {
 fn internet_bytes(address: &SocketAddr) -> Vec<u8> {
     let port = address.port().to_be_bytes();
     match address {
-        SocketAddr::V4(it) => [&2u16.to_ne_bytes()[..], &port, &it.ip().octets(), &[0; 8]].concat(),
+        SocketAddr::V4(it) => [&(system::INTERNET_4 as u16).to_ne_bytes()[..], &port, &it.ip().octets(), &[0; 8]].concat(),
         SocketAddr::V6(it) => {
             let (flow, scope) = (it.flowinfo().to_be_bytes(), it.scope_id().to_ne_bytes());
-            [&10u16.to_ne_bytes()[..], &port, &flow, &it.ip().octets(), &scope].concat()
+            [&(system::INTERNET_6 as u16).to_ne_bytes()[..], &port, &flow, &it.ip().octets(), &scope].concat()
         }
     }
 }
 
+/// The path of a socket has so many bytes at most.
+const LONGEST_PATH: usize = 107;
+
 /// The same of a path. An `@` in front stands for a name that is no file's.
 pub fn unix_bytes(path: &Path) -> io::Result<Vec<u8>> {
     let mut name = path.as_os_str().as_bytes().to_vec();
-    if name.is_empty() || name.len() > 107 || name.contains(&0) {
+    if name.is_empty() || name.len() > LONGEST_PATH || name.contains(&0) {
         return Err(io::Error::new(io::ErrorKind::InvalidInput, "the path has more than 107 bytes"));
     }
     match name[0] {
         b'@' => name[0] = 0,
         _ => name.push(0),
     }
-    Ok([&1u16.to_ne_bytes()[..], &name].concat())
+    Ok([&(system::UNIX as u16).to_ne_bytes()[..], &name].concat())
 }
 
 /// A client of IPv4 that comes to a socket of IPv6, as a handed one may be, has its own address all the same.
@@ -81,12 +83,13 @@ pub fn plain(address: IpAddr) -> IpAddr {
 
 enum Socket {
     Internet(TcpListener),
-    /// With the path that is removed at the end.
-    Unix(UnixListener, Option<PathBuf>),
+    Unix(UnixListener),
 }
 
 pub struct Listener {
     socket: Socket,
+    /// The file of a socket of Unix, where it was made here. It goes with this.
+    _file: Option<OwnFile>,
     pub speaks_tls: bool,
 }
 
@@ -94,33 +97,34 @@ impl Listener {
     /// An Err names the word that asks for it.
     pub fn open(word: &str, address: &Address, speaks_tls: bool) -> Result<Listener, Fault> {
         let opened = match address {
-            Address::Internet(address) => open_internet(address),
-            Address::Unix(path, mode) => open_unix(path, *mode),
+            Address::Internet(address) => open_internet(address).map(|socket| (socket, None)),
+            Address::Unix(path, mode) => open_unix(path, *mode).map(|(listener, file)| (Socket::Unix(listener), Some(file))),
         };
-        let socket = opened.map_err(|error| match (error.kind(), address) {
+        let (socket, file) = opened.map_err(|error| match (error.kind(), address) {
             (io::ErrorKind::AddrInUse, Address::Internet(it)) => {
                 Fault::new(NO_ADDRESS, format_args!("port {} is in use; take another one, or 0 for any that is free", it.port()))
             }
             _ => Fault::new(NO_ADDRESS, format_args!("{}: {}", word, error)),
         })?;
-        Ok(Listener { socket, speaks_tls })
+        Ok(Listener { socket, _file: file, speaks_tls })
     }
 
     /// A socket of either kind.
     fn of(socket: OwnedFd, speaks_tls: bool) -> io::Result<Listener> {
         system::control(&socket, system::BEHAVIOUR, system::NON_BLOCKING)?;
         let listener = TcpListener::from(socket);
-        match listener.local_addr() {
-            Ok(_) => Ok(Listener { socket: Socket::Internet(listener), speaks_tls }),
-            Err(_) => Ok(Listener { socket: Socket::Unix(UnixListener::from(OwnedFd::from(listener)), None), speaks_tls: false }),
-        }
+        let (socket, speaks_tls) = match listener.local_addr() {
+            Ok(_) => (Socket::Internet(listener), speaks_tls),
+            Err(_) => (Socket::Unix(UnixListener::from(OwnedFd::from(listener))), false),
+        };
+        Ok(Listener { socket, _file: None, speaks_tls })
     }
 
     /// The next client, and its address; none where it comes by a socket of Unix. Neither of its calls blocks.
     pub fn accept(&self) -> io::Result<(TcpStream, Option<IpAddr>)> {
         let (socket, place) = match &self.socket {
             Socket::Internet(listener) => listener.accept().map(|(socket, place)| (socket, Some(plain(place.ip()))))?,
-            Socket::Unix(listener, _) => (TcpStream::from(OwnedFd::from(listener.accept()?.0)), None),
+            Socket::Unix(listener) => (TcpStream::from(OwnedFd::from(listener.accept()?.0)), None),
         };
         socket.set_nonblocking(true)?;
         Ok((socket, place))
@@ -129,7 +133,7 @@ impl Listener {
     pub fn file(&self) -> RawFd {
         match &self.socket {
             Socket::Internet(listener) => listener.as_raw_fd(),
-            Socket::Unix(listener, _) => listener.as_raw_fd(),
+            Socket::Unix(listener) => listener.as_raw_fd(),
         }
     }
 
@@ -138,7 +142,7 @@ impl Listener {
         let scheme = if self.speaks_tls { "https" } else { "http" };
         match &self.socket {
             Socket::Internet(listener) => listener.local_addr().map_or_else(|_| "?".into(), |at| format!("{}://{}/", scheme, at)),
-            Socket::Unix(listener, _) => {
+            Socket::Unix(listener) => {
                 let address = listener.local_addr();
                 let path = address.as_ref().ok().and_then(|it| it.as_pathname());
                 format!("unix:{}", path.map_or("?".into(), |it| it.to_string_lossy()))
@@ -155,16 +159,9 @@ impl Listener {
     }
 }
 
-impl Drop for Listener {
-    fn drop(&mut self) {
-        if let Socket::Unix(_, Some(path)) = &self.socket {
-            let _ = remove_file(path);
-        }
-    }
-}
-
 fn open_internet(address: &SocketAddr) -> io::Result<Socket> {
-    let socket = system::new_socket(if address.is_ipv4() { 2 } else { 10 }, system::STREAM)?;
+    let family = if address.is_ipv4() { system::INTERNET_4 } else { system::INTERNET_6 };
+    let socket = system::new_socket(family, system::STREAM)?;
     system::set_option(&socket, system::REUSE_ADDRESS, 1)?;
     if address.is_ipv6() {
         system::set_option(&socket, system::ONLY_IPV6, 1)?;
@@ -172,25 +169,6 @@ fn open_internet(address: &SocketAddr) -> io::Result<Socket> {
     system::bind_to(&socket, &internet_bytes(address))?;
     system::listen_on(&socket)?;
     Ok(Socket::Internet(TcpListener::from(socket)))
-}
-
-fn open_unix(path: &Path, mode: u32) -> io::Result<Socket> {
-    let bytes = unix_bytes(path)?;
-    let socket = system::new_socket(system::UNIX, system::STREAM)?;
-    if let Err(error) = system::bind_to(&socket, &bytes) {
-        // A socket at which nobody listens was left over.
-        let is_left = UnixStream::connect(path).map_or_else(|it| it.kind() == io::ErrorKind::ConnectionRefused, |_| false);
-        if error.kind() != io::ErrorKind::AddrInUse || !is_left {
-            return Err(error);
-        }
-        remove_file(path)?;
-        system::bind_to(&socket, &bytes)?;
-    }
-    let listener = Socket::Unix(UnixListener::from(socket.try_clone()?), Some(path.to_path_buf()));
-    // Nobody gets in before this.
-    set_permissions(path, Permissions::from_mode(mode))?;
-    system::listen_on(&socket)?;
-    Ok(listener)
 }
 
 /// The first one that is handed over.

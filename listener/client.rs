@@ -22,6 +22,8 @@ pub struct Client {
     pub place: Option<Place>,
     /// What its proxy tells of it, until that is whole.
     pub header: Option<Box<Header>>,
+    /// Whether a user was let in.
+    pub is_known: bool,
     /// Of its frames; none before the first.
     pub number: Option<u64>,
     /// Whether it may still send: its end has not come, nor was it given one.
@@ -68,6 +70,7 @@ impl Client {
             address,
             place: None,
             header: None,
+            is_known: false,
             number: None,
             hears: true,
             has_ended: false,
@@ -240,6 +243,11 @@ impl Client {
             _ => 2,
         };
         Some((rank, self.times.since)).filter(|_| self.lingers() || self.is_at_rest())
+    }
+
+    /// How long it has owed a request, where it does so for long, and sends little though it is heard.
+    pub fn lags(&self, limits: &Limits, now: u64) -> Option<u64> {
+        self.times.lags(limits, now).filter(|_| self.is_read() && !self.lingers())
     }
 
     /// Whether it is late. Where it isn't read, it can be so with taking alone.

@@ -57,7 +57,7 @@ impl Clients {
             to: ToProgram::new(),
             limits,
             most: most.0,
-            places: Places::new(most.1),
+            places: Places::new(most.0, most.1),
             proxies,
             window,
             by_key: HashMap::new(),
@@ -144,11 +144,34 @@ impl Clients {
         }
     }
 
-    /// Closes whoever has rested longest, and long enough; first those that are over, then those that never sent anything. Whether there was one.
+    /// Closes one to let another in. Whether there was one.
     pub fn evict(&mut self) -> bool {
+        let resting = self.longest_at_rest();
+        let found = resting.or_else(|| self.longest_lagging());
+        found.map(|key| self.lose(key)).is_some()
+    }
+
+    /// Who has rested longest, and long enough; first those that are over, then those that never sent anything.
+    fn longest_at_rest(&self) -> Option<u64> {
         let resting = self.by_key.iter().filter_map(|(key, client)| Some((client.rests_since()?, *key)));
-        let found = resting.filter(|((_, since), _)| since + RESTED <= self.now).min();
-        found.map(|(_, key)| self.lose(key)).is_some()
+        resting.filter(|((_, since), _)| since + RESTED <= self.now).min().map(|(_, key)| key)
+    }
+
+    /// Who has owed a request longest, and sends little: first of a crowd, then of those that are not known. None where a connection that is over makes room soon.
+    fn longest_lagging(&mut self) -> Option<u64> {
+        if self.by_key.values().any(Client::lingers) {
+            return None;
+        }
+        let lagging = self.by_key.iter().filter_map(|(key, client)| {
+            let time = client.lags(&self.limits, self.now)?;
+            let is_of_crowd = self.places.is_crowd(client.place);
+            let is_known = client.is_known || self.places.is_known(client.place);
+            Some((is_of_crowd, time, *key)).filter(|_| is_of_crowd || !is_known)
+        });
+        let (_, _, key) = lagging.max()?;
+        let address = self.by_key.get(&key).and_then(|client| client.address);
+        self.refusals.note(address, "all places were taken, and it owed a request and sent little", self.now);
+        Some(key)
     }
 
     fn close(&mut self, key: u64) {
@@ -321,10 +344,11 @@ impl Clients {
             Told::Line(Line::Over(number)) => self.over(number),
             Told::Line(Line::Grant(number, bytes)) => {
                 if let Some(key) = self.by_number.get(&number).copied() {
-                    self.by_key.get_mut(&key).map(|client| client.grant(bytes));
+                    self.by_key.get_mut(&key).into_iter().for_each(|client| client.grant(bytes));
                     self.arm(key);
                 }
             }
+            Told::Line(Line::Known(number)) => self.know(number),
             Told::Line(Line::Rests(number, bytes)) => self.waits(number, Turn::Rests, bytes),
             Told::Line(Line::Owes(number, bytes)) => self.waits(number, Turn::Owes, bytes),
             // Its bytes come behind it; and that the program is ready is no client's matter.
@@ -372,6 +396,15 @@ impl Clients {
         }
     }
 
+    /// A user was let in: whoever comes from there makes no room for others from now on.
+    fn know(&mut self, number: u64) {
+        let key = self.by_number.get(&number);
+        if let Some(client) = key.and_then(|key| self.by_key.get_mut(key)) {
+            client.is_known = true;
+            client.place.into_iter().for_each(|place| self.places.know(place));
+        }
+    }
+
     /// What the program says is true only where it has taken all that was sent.
     fn waits(&mut self, number: u64, turn: Turn, bytes: u64) {
         if let Some(key) = self.by_number.get(&number).copied() {
@@ -395,7 +428,7 @@ impl Clients {
         self.to.write_out()?;
         if self.to.has_room() {
             for key in std::mem::take(&mut self.paused) {
-                self.by_key.get_mut(&key).map(|client| client.is_paused = false);
+                self.by_key.get_mut(&key).into_iter().for_each(|client| client.is_paused = false);
                 self.arm(key);
             }
         }

@@ -20,6 +20,7 @@ mod proxied;
 mod refusals;
 mod runs;
 mod server;
+mod sockets;
 mod system;
 mod telling;
 mod times;

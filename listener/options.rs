@@ -13,7 +13,7 @@ Listens for clients, runs the program, and moves their bytes to it and back, in 
   --listen ADDRESS:PORT           where to listen, several times: IPv4, [IPv6], a name, unix:PATH or unix:PATH,mode=660
                                   (600 without it); 127.0.0.1 at PORT, else 8080, where nothing is said or handed over
   --connections COUNT             how many clients are served at a time; 1000 without it
-  --connections-per-address COUNT how many of them from one address, or one network of IPv6; half of them without it
+  --connections-per-address COUNT how many of them from one address, or one network of IPv6; a quarter without it
   --idle SECONDS                  how long a client may rest between requests; 120 without it
   --head SECONDS                  how long it may take to send a request; 20 without it
   --rate BYTES                    each so many bytes of a request give it a second more; 500 without it
@@ -31,6 +31,9 @@ Listens for clients, runs the program, and moves their bytes to it and back, in 
   --proxy-protocol ADDRESSES      each connection from there (addresses, networks as 10.0.0.0/8, or unix, with commas between) begins with a
                                   header of the PROXY protocol, version 2, which tells where its client is
 ";
+
+/// One address has such a part of all places, where nothing else is said.
+const PLACES_OF_ONE: usize = 4;
 
 pub fn is_numeral(word: &str) -> bool {
     !word.is_empty() && word.bytes().all(|byte| byte.is_ascii_digit())
@@ -100,7 +103,7 @@ impl Options {
         }
         options.certificates.iter_mut().zip(keys).for_each(|(pair, key)| pair.1 = key);
         if options.connections_per_address == 0 {
-            options.connections_per_address = (options.connections / 2).max(1);
+            options.connections_per_address = (options.connections / PLACES_OF_ONE).max(1);
         }
         options.program = words.collect();
         options.check_program()?;
@@ -178,7 +181,7 @@ mod tests {
     fn words_are_read() {
         let options = read("--idle 3 --listen a:1 --connections 10 --listen b:2 80 program --idle 4").unwrap();
         assert_eq!(options.addresses, ["a:1", "b:2", "127.0.0.1:80"]);
-        assert_eq!((options.limits.idle, options.connections_per_address), (3000, 5));
+        assert_eq!((options.limits.idle, options.connections_per_address), (3000, 2));
         assert_eq!(options.program, ["program", "--idle", "4"]);
         assert_eq!(read("program 80").unwrap().addresses.len(), 0);
         let pairs = read("--tls-cert a --tls-cert b --tls-key c --tls-key d p").unwrap().certificates;

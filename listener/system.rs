@@ -23,7 +23,10 @@ const SIGNALS: [u64; 16] = [1 | 1 << 1 | 1 << 14, 0, 0, 0, 0, 0, 0, 0, 0, 0, 0, 
 const TOO_LONG: c_int = 25;
 const IGNORED: isize = 1;
 
+/// Families of sockets.
 pub const UNIX: c_int = 1;
+pub const INTERNET_4: c_int = 2;
+pub const INTERNET_6: c_int = 10;
 pub const STREAM: c_int = 1;
 pub const DATAGRAM: c_int = 2;
 const CLOSED_ON_EXEC: c_int = 0o2000000;
@@ -39,6 +42,8 @@ const NO_SIGNAL: c_int = 0x4000;
 /// Pages are moved, and no call blocks.
 const MOVED: c_uint = 1 | 2;
 const BLOCK: c_int = 0;
+/// A file is locked for this process alone, or the call fails.
+const LOCKED_ALONE: c_int = 2 | 4;
 /// ENOMEM, ENFILE, EMFILE and ENOBUFS.
 pub const WANTS: [i32; 4] = [12, 23, 24, 105];
 
@@ -70,6 +75,7 @@ extern "C" {
     fn sendto(socket: c_int, bytes: *const u8, length: usize, flags: c_int, to: *const u8, size: c_uint) -> isize;
     fn setsockopt(socket: c_int, level: c_int, name: c_int, value: *const c_int, length: c_uint) -> c_int;
     fn fcntl(file: c_int, command: c_int, ...) -> c_int;
+    fn flock(file: c_int, how: c_int) -> c_int;
     fn splice(from: c_int, at: *mut c_void, to: c_int, place: *mut c_void, most: usize, flags: c_uint) -> isize;
     fn signalfd(file: c_int, signals: *const [u64; 16], flags: c_int) -> c_int;
     fn sigprocmask(how: c_int, signals: *const [u64; 16], before: *mut c_void) -> c_int;
@@ -136,6 +142,12 @@ pub fn set_option(socket: &impl AsRawFd, option: SocketOption, value: c_int) -> 
 pub fn control(file: &impl AsRawFd, command: c_int, value: c_int) -> io::Result<()> {
     // SAFETY: these commands take a c_int.
     checked(unsafe { fcntl(file.as_raw_fd(), command, value) }).map(drop)
+}
+
+/// Locks a file until it is closed; an Err of WouldBlock where another process has it locked.
+pub fn lock(file: &impl AsRawFd) -> io::Result<()> {
+    // SAFETY: it takes no pointer.
+    checked(unsafe { flock(file.as_raw_fd(), LOCKED_ALONE) }).map(drop)
 }
 
 /// A socket that whoever started this process left open for it; nobody else here may take it.

@@ -11,12 +11,13 @@ import sys
 
 sys.dont_write_bytecode = True
 import builds
+import certificates
 import proving
 from repository import LISTENER, TOP, tell
 from usages import HELP
 
 # The options of the listener; of these the program has one, too.
-OF_LISTENER = {"--" + name for name in "listen connections connections-per-address idle head rate stall linger grace memory window users".split()}
+OF_LISTENER = {"--" + name for name in "listen connections connections-per-address idle head rate stall linger grace memory window users tls-cert tls-key proxy-protocol".split()}
 OF_BOTH = {"--window"}
 # The options that have no value. They are the program's.
 FLAGS = {"--read-only", "--existing"}
@@ -87,7 +88,7 @@ def prove(program):
 
 
 def parted(words):
-    """The words of the listener, and those of the program, whom the listener tells the users."""
+    """The words of the listener, and those of the program, whom the listener tells the users. Where the listener speaks TLS, clients come by https."""
     first = [words.pop(0)] if words and words[0].isdigit() else []
     pairs = []
     while words:
@@ -95,7 +96,10 @@ def parted(words):
         pairs.append(words[:count])
         words = words[count:]
     before = [word for pair in pairs if pair[0] in OF_LISTENER for word in pair]
-    logs_in = ["--login"] if any(pair[0] == "--users" for pair in pairs) else []
+    named = [pair[0] for pair in pairs]
+    logs_in = ["--login"] if "--users" in named else []
+    if "--tls-cert" in named and "--scheme" not in named:
+        pairs.append(["--scheme", "https"])
     return before + first, logs_in + [word for pair in pairs if pair[0] not in OF_LISTENER - OF_BOTH for word in pair]
 
 
@@ -122,6 +126,8 @@ def main(program, words):
     elif words == ["--prove"]:
         others = [LISTENER] if program == "davserve" else []
         sys.exit(not all([prove(it) for it in (*others, program)]))
+    elif program == "davserve" and words[:1] == ["--make-cert"]:
+        sys.exit(certificates.make(words[1:]))
     elif program == "davserve":
         listen = place_of(LISTENER)
         before, behind = parted(words)

@@ -3,6 +3,7 @@
 HELP = {
     "davserve": """\
 usage: bin/davserve [PORT] [OPTION VALUE].. [--read-only] [--existing]
+       bin/davserve --make-cert NAME[,NAME..] DIR
 
 Serves a WebDAV folder on 127.0.0.1 at PORT, else 8080 (0: any that is free), and prints its URL once it serves. With --store a file keeps it; else it is empty at first, and gone when it ends.
 It runs what was proved on this machine, or else the release in this repository. A first SIGTERM or interrupt lets what has begun go on for a while, a second ends it at once.
@@ -12,7 +13,7 @@ It runs what was proved on this machine, or else the release in this repository.
   --sync always|second            when FILE has what is changed: before an answer tells of it, as without this; or once a second, so that a crash takes at most the last second's changes
   --compact-over BYTES            at the start FILE is written anew where it has more bytes than that, 67108864 without this,
   --compact-useless PERCENT       and where more than so many hundredths of it are of no use any more, 50 without this
-  --scheme http|https             the scheme by which clients come, where a proxy stands between
+  --scheme http|https             the scheme by which clients come, where a proxy stands between; https with --tls-cert, else http
   --prefix PATH                   the path that the folder stands at, as /dav
   --user-header NAME              the header in which a proxy names the user; without it all requests are one user
   --address-header NAME           the header in which a proxy tells where a client is, for --log and for the limits of guesses of --users; what stands behind the last comma of the last one counts
@@ -28,6 +29,7 @@ It runs what was proved on this machine, or else the release in this repository.
   --unfinished BYTES              the most bytes of requests that have not come whole, of all clients; 268435456 without it
   --seed NUMBER                   for tests: the seed of the tokens of locks
   --clock NANOSECONDS|frames      for tests: the moment at which the clock stands
+  --make-cert NAME[,NAME..] DIR   makes a certificate of its own for these names or addresses, and its key, for --tls-cert and --tls-key: cert.pem and key.pem in DIR, which is made where it isn't there
   --prove                         proves and builds it here, and compares its bytes with those of the release
   --path                          prints where the program stands that is run; nothing is proved for it
   --help, --version               this text; what is run, and what it needs
@@ -35,7 +37,7 @@ It runs what was proved on this machine, or else the release in this repository.
 Of the listener in front of it (docs/OPERATIONS.md):
   --listen ADDRESS:PORT           where to listen, several times: IPv4, [IPv6], a name, unix:PATH or unix:PATH,mode=660 (600 without it)
   --connections COUNT             the most clients at a time; 1000 without it
-  --connections-per-address COUNT the most of them from one address, or one network of IPv6; half of them without it
+  --connections-per-address COUNT the most of them from one address, or one network of IPv6; a quarter of them without it
   --idle SECONDS                  how long a client may rest between requests; 120 without it
   --head SECONDS                  how long it may take to send a request; 20 without it
   --rate BYTES                    each so many bytes of a request give it a second more; 500 without it
@@ -43,6 +45,9 @@ Of the listener in front of it (docs/OPERATIONS.md):
   --linger SECONDS                how long a connection that is over is still read, so that its last answer is seen; 5 without it
   --grace SECONDS                 how long what has begun goes on behind a first SIGTERM; 10 without it
   --memory BYTES                  how much the server may take, 0 for no limit; half of the machine's without it
+  --tls-cert FILE                 a certificate with its chain, in PEM: TLS is spoken at all addresses but unix sockets and ADDRESS:PORT,plain; several times, for several names; read again on SIGHUP
+  --tls-key FILE                  its key, in PEM, without a password; one for each --tls-cert, in the same order
+  --proxy-protocol ADDRESSES      each connection from there (addresses, networks as 10.0.0.0/8, or unix, with commas between) begins with a header of the PROXY protocol, version 2, which tells where its client is; not with --user-header or --address-header
 """,
     "davstore": """\
 usage: bin/davstore FILE check

@@ -1,14 +1,15 @@
 //! Where clients are let in: addresses of IPv4 and IPv6, sockets of Unix, and sockets that whoever started this process hands over.
+use crate::fault::{Fault, NO_ADDRESS};
 use crate::options::read_port;
+use crate::sockets::{open_unix, OwnFile};
 use crate::system;
 use std::env;
-use std::fs::{remove_file, set_permissions, Permissions};
 use std::io;
+use std::iter::repeat;
 use std::net::{IpAddr, SocketAddr, TcpListener, TcpStream, ToSocketAddrs};
 use std::os::unix::ffi::OsStrExt;
-use std::os::unix::fs::PermissionsExt;
 use std::os::unix::io::{AsRawFd, OwnedFd, RawFd};
-use std::os::unix::net::{UnixListener, UnixStream};
+use std::os::unix::net::UnixListener;
 use std::path::{Path, PathBuf};
 
 #[derive(Clone, Debug, PartialEq)]
@@ -18,20 +19,29 @@ pub enum Address {
     Unix(PathBuf, u32),
 }
 
+/// A word without `,tls` or `,plain` behind it, and whether TLS is spoken there: unless it says so, at all but unix sockets where there are certificates.
+pub fn spoken(word: &str, has_certificates: bool) -> (&str, bool) {
+    match (word.strip_suffix(",tls"), word.strip_suffix(",plain")) {
+        (Some(rest), _) => (rest, true),
+        (_, Some(rest)) => (rest, false),
+        _ => (word, has_certificates && !word.starts_with("unix:")),
+    }
+}
+
 /// What `ADDRESS:PORT`, `[ADDRESS]:PORT`, `NAME:PORT`, `unix:PATH` or `unix:PATH,mode=OCTAL` stands for.
-pub fn read(word: &str) -> Result<Vec<Address>, String> {
+pub fn read(word: &str) -> Result<Vec<Address>, Fault> {
     if let Some(rest) = word.strip_prefix("unix:") {
         let (path, mode) = rest.split_once(",mode=").unwrap_or((rest, "600"));
         let mode = u32::from_str_radix(mode, 8).ok().filter(|mode| *mode <= 0o777);
         return match mode {
             Some(mode) if !path.is_empty() => Ok(vec![Address::Unix(PathBuf::from(path), mode)]),
-            _ => Err(format!("{} is no address: unix:PATH, or unix:PATH,mode=660", word)),
+            _ => Err(Fault::words(format_args!("{} is no address: unix:PATH, or unix:PATH,mode=660", word))),
         };
     }
     let port = word.rsplit_once(':').map(|(_, port)| port);
-    let port = port.ok_or_else(|| format!("{} is no address: it has no port, as in 127.0.0.1:8080", word))?;
-    read_port(port).map_err(|why| format!("{} is no address: {}", word, why))?;
-    let found = word.to_socket_addrs().map_err(|error| format!("{} is no address: {}", word, error))?;
+    let port = port.ok_or_else(|| Fault::words(format_args!("{} is no address: it has no port, as in 127.0.0.1:8080", word)))?;
+    read_port(port).map_err(|why| Fault::words(format_args!("{} is no address: {}", word, why)))?;
+    let found = word.to_socket_addrs().map_err(|error| Fault::words(format_args!("{} is no address: {}", word, error)))?;
     Ok(found.map(Address::Internet).collect())
 }
 
@@ -39,81 +49,100 @@ pub fn read(word: &str) -> Result<Vec<Address>, String> {
 fn internet_bytes(address: &SocketAddr) -> Vec<u8> {
     let port = address.port().to_be_bytes();
     match address {
-        SocketAddr::V4(it) => [&2u16.to_ne_bytes()[..], &port, &it.ip().octets(), &[0; 8]].concat(),
+        SocketAddr::V4(it) => [&(system::INTERNET_4 as u16).to_ne_bytes()[..], &port, &it.ip().octets(), &[0; 8]].concat(),
         SocketAddr::V6(it) => {
             let (flow, scope) = (it.flowinfo().to_be_bytes(), it.scope_id().to_ne_bytes());
-            [&10u16.to_ne_bytes()[..], &port, &flow, &it.ip().octets(), &scope].concat()
+            [&(system::INTERNET_6 as u16).to_ne_bytes()[..], &port, &flow, &it.ip().octets(), &scope].concat()
         }
     }
 }
 
+/// The path of a socket has so many bytes at most.
+const LONGEST_PATH: usize = 107;
+
 /// The same of a path. An `@` in front stands for a name that is no file's.
 pub fn unix_bytes(path: &Path) -> io::Result<Vec<u8>> {
     let mut name = path.as_os_str().as_bytes().to_vec();
-    if name.is_empty() || name.len() > 107 || name.contains(&0) {
+    if name.is_empty() || name.len() > LONGEST_PATH || name.contains(&0) {
         return Err(io::Error::new(io::ErrorKind::InvalidInput, "the path has more than 107 bytes"));
     }
     match name[0] {
         b'@' => name[0] = 0,
         _ => name.push(0),
     }
-    Ok([&1u16.to_ne_bytes()[..], &name].concat())
+    Ok([&(system::UNIX as u16).to_ne_bytes()[..], &name].concat())
 }
 
 /// A client of IPv4 that comes to a socket of IPv6, as a handed one may be, has its own address all the same.
-fn plain(address: IpAddr) -> IpAddr {
+pub fn plain(address: IpAddr) -> IpAddr {
     match address {
         IpAddr::V6(it) => it.to_ipv4_mapped().map_or(address, IpAddr::V4),
         IpAddr::V4(_) => address,
     }
 }
 
-pub enum Listener {
+enum Socket {
     Internet(TcpListener),
-    /// With the path that is removed at the end.
-    Unix(UnixListener, Option<PathBuf>),
+    Unix(UnixListener),
+}
+
+pub struct Listener {
+    socket: Socket,
+    /// The file of a socket of Unix, where it was made here. It goes with this.
+    _file: Option<OwnFile>,
+    pub speaks_tls: bool,
 }
 
 impl Listener {
-    pub fn open(address: &Address) -> io::Result<Listener> {
-        match address {
-            Address::Internet(address) => open_internet(address),
-            Address::Unix(path, mode) => open_unix(path, *mode),
-        }
+    /// An Err names the word that asks for it.
+    pub fn open(word: &str, address: &Address, speaks_tls: bool) -> Result<Listener, Fault> {
+        let opened = match address {
+            Address::Internet(address) => open_internet(address).map(|socket| (socket, None)),
+            Address::Unix(path, mode) => open_unix(path, *mode).map(|(listener, file)| (Socket::Unix(listener), Some(file))),
+        };
+        let (socket, file) = opened.map_err(|error| match (error.kind(), address) {
+            (io::ErrorKind::AddrInUse, Address::Internet(it)) => {
+                Fault::new(NO_ADDRESS, format_args!("port {} is in use; take another one, or 0 for any that is free", it.port()))
+            }
+            _ => Fault::new(NO_ADDRESS, format_args!("{}: {}", word, error)),
+        })?;
+        Ok(Listener { socket, _file: file, speaks_tls })
     }
 
     /// A socket of either kind.
-    fn of(socket: OwnedFd) -> io::Result<Listener> {
+    fn of(socket: OwnedFd, speaks_tls: bool) -> io::Result<Listener> {
         system::control(&socket, system::BEHAVIOUR, system::NON_BLOCKING)?;
         let listener = TcpListener::from(socket);
-        match listener.local_addr() {
-            Ok(_) => Ok(Listener::Internet(listener)),
-            Err(_) => Ok(Listener::Unix(UnixListener::from(OwnedFd::from(listener)), None)),
-        }
+        let (socket, speaks_tls) = match listener.local_addr() {
+            Ok(_) => (Socket::Internet(listener), speaks_tls),
+            Err(_) => (Socket::Unix(UnixListener::from(OwnedFd::from(listener))), false),
+        };
+        Ok(Listener { socket, _file: None, speaks_tls })
     }
 
     /// The next client, and its address; none where it comes by a socket of Unix. Neither of its calls blocks.
     pub fn accept(&self) -> io::Result<(TcpStream, Option<IpAddr>)> {
-        let (socket, place) = match self {
-            Listener::Internet(listener) => listener.accept().map(|(socket, place)| (socket, Some(plain(place.ip()))))?,
-            Listener::Unix(listener, _) => (TcpStream::from(OwnedFd::from(listener.accept()?.0)), None),
+        let (socket, place) = match &self.socket {
+            Socket::Internet(listener) => listener.accept().map(|(socket, place)| (socket, Some(plain(place.ip()))))?,
+            Socket::Unix(listener) => (TcpStream::from(OwnedFd::from(listener.accept()?.0)), None),
         };
         socket.set_nonblocking(true)?;
         Ok((socket, place))
     }
 
     pub fn file(&self) -> RawFd {
-        match self {
-            Listener::Internet(listener) => listener.as_raw_fd(),
-            Listener::Unix(listener, _) => listener.as_raw_fd(),
+        match &self.socket {
+            Socket::Internet(listener) => listener.as_raw_fd(),
+            Socket::Unix(listener) => listener.as_raw_fd(),
         }
     }
 
     /// Its URL, or its path.
     pub fn name(&self) -> String {
-        match self {
-            Listener::Internet(listener) => listener.local_addr().map_or_else(|_| "?".into(), |at| format!("http://{}/", at)),
-            Listener::Unix(listener, _) => {
+        let scheme = if self.speaks_tls { "https" } else { "http" };
+        match &self.socket {
+            Socket::Internet(listener) => listener.local_addr().map_or_else(|_| "?".into(), |at| format!("{}://{}/", scheme, at)),
+            Socket::Unix(listener) => {
                 let address = listener.local_addr();
                 let path = address.as_ref().ok().and_then(|it| it.as_pathname());
                 format!("unix:{}", path.map_or("?".into(), |it| it.to_string_lossy()))
@@ -123,59 +152,44 @@ impl Listener {
 
     /// Whether clients of other machines get there.
     pub fn is_open(&self) -> bool {
-        match self {
-            Listener::Internet(listener) => listener.local_addr().map_or(true, |at| !at.ip().is_loopback()),
-            Listener::Unix(..) => false,
+        match &self.socket {
+            Socket::Internet(listener) => listener.local_addr().map_or(true, |at| !at.ip().is_loopback()),
+            Socket::Unix(..) => false,
         }
     }
 }
 
-impl Drop for Listener {
-    fn drop(&mut self) {
-        if let Listener::Unix(_, Some(path)) = self {
-            let _ = remove_file(path);
-        }
-    }
-}
-
-fn open_internet(address: &SocketAddr) -> io::Result<Listener> {
-    let socket = system::new_socket(if address.is_ipv4() { 2 } else { 10 }, system::STREAM)?;
+fn open_internet(address: &SocketAddr) -> io::Result<Socket> {
+    let family = if address.is_ipv4() { system::INTERNET_4 } else { system::INTERNET_6 };
+    let socket = system::new_socket(family, system::STREAM)?;
     system::set_option(&socket, system::REUSE_ADDRESS, 1)?;
     if address.is_ipv6() {
         system::set_option(&socket, system::ONLY_IPV6, 1)?;
     }
     system::bind_to(&socket, &internet_bytes(address))?;
     system::listen_on(&socket)?;
-    Ok(Listener::Internet(TcpListener::from(socket)))
+    Ok(Socket::Internet(TcpListener::from(socket)))
 }
 
-fn open_unix(path: &Path, mode: u32) -> io::Result<Listener> {
-    let bytes = unix_bytes(path)?;
-    let socket = system::new_socket(system::UNIX, system::STREAM)?;
-    if let Err(error) = system::bind_to(&socket, &bytes) {
-        // A socket at which nobody listens was left over.
-        let is_left = UnixStream::connect(path).map_or_else(|it| it.kind() == io::ErrorKind::ConnectionRefused, |_| false);
-        if error.kind() != io::ErrorKind::AddrInUse || !is_left {
-            return Err(error);
-        }
-        remove_file(path)?;
-        system::bind_to(&socket, &bytes)?;
-    }
-    let listener = Listener::Unix(UnixListener::from(socket.try_clone()?), Some(path.to_path_buf()));
-    // Nobody gets in before this.
-    set_permissions(path, Permissions::from_mode(mode))?;
-    system::listen_on(&socket)?;
-    Ok(listener)
-}
+/// The first one that is handed over.
+const FIRST_HANDED: RawFd = 3;
 
-/// The sockets that are handed over, as systemd does it: LISTEN_FDS of them, from 3 on, for the process LISTEN_PID.
-pub fn handed_over() -> io::Result<Vec<Listener>> {
+/// TLS is not spoken where it has this name.
+const PLAIN: &str = "plain";
+
+/// The sockets that are handed over, as systemd does it: LISTEN_FDS of them for the process LISTEN_PID, with the names LISTEN_FDNAMES.
+pub fn handed_over(has_certificates: bool) -> Result<Vec<Listener>, Fault> {
     let number = |name| env::var(name).ok().and_then(|word| word.parse::<RawFd>().ok());
     if number("LISTEN_PID") != Some(std::process::id() as RawFd) {
         return Ok(Vec::new());
     }
     let count = number("LISTEN_FDS").unwrap_or(0);
-    (3..3 + count).map(|file| Listener::of(system::handed_over(file)?)).collect()
+    let names = env::var("LISTEN_FDNAMES").unwrap_or_default();
+    let is_plain = names.split(':').map(|name| name == PLAIN).chain(repeat(false));
+    let files = (FIRST_HANDED..FIRST_HANDED + count).zip(is_plain);
+    let taken = files.map(|(file, is_plain)| Listener::of(system::handed_over(file)?, has_certificates && !is_plain));
+    let all: io::Result<Vec<_>> = taken.collect();
+    all.map_err(|error| Fault::new(NO_ADDRESS, format_args!("a socket that is handed over: {}", error)))
 }
 
 #[cfg(test)]
@@ -190,6 +204,20 @@ mod tests {
         assert_eq!(read("unix:/a,mode=666"), Ok(vec![Address::Unix("/a".into(), 0o666)]));
         for word in ["", "80", "127.0.0.1", "127.0.0.1:65536", "unix:", "unix:/a,mode=8", "unix:/a,mode=1777"] {
             assert!(read(word).is_err(), "{}", word);
+        }
+    }
+
+    #[test]
+    fn words_say_where_tls_is_spoken() {
+        for (word, has, wanted) in [
+            ("a:1", false, ("a:1", false)),
+            ("a:1", true, ("a:1", true)),
+            ("a:1,plain", true, ("a:1", false)),
+            ("unix:/a,mode=660", true, ("unix:/a,mode=660", false)),
+            ("unix:/a,mode=660,tls", true, ("unix:/a,mode=660", true)),
+            ("a:1,tls", false, ("a:1", true)),
+        ] {
+            assert_eq!(spoken(word, has), wanted, "{}", word);
         }
     }
 

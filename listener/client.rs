@@ -1,18 +1,29 @@
 //! One client: its socket, what waits for it, and how far it may send.
 use crate::frames;
+use crate::openssl::Contexts;
+use crate::places::Place;
 use crate::program::{ToProgram, PIECE};
+use crate::proxied::Header;
+use crate::system::{IN, OUT};
 use crate::times::{Late, Limits, Times, Turn};
-use std::io::{self, ErrorKind, Read, Write};
-use std::net::{IpAddr, Shutdown, TcpStream};
+use crate::wire::Wire;
+use std::io::{self, ErrorKind, Read};
+use std::net::{IpAddr, TcpStream};
+use std::rc::Rc;
 
 /// So much of a connection that is over is read before it is closed.
 const DRAINED: usize = 1 << 20;
 
 pub struct Client {
-    /// Of any family.
-    pub socket: TcpStream,
+    pub wire: Wire,
     /// Where it comes from; none where that is a unix socket.
     pub address: Option<IpAddr>,
+    /// The place that it counts for, once that is known.
+    pub place: Option<Place>,
+    /// What its proxy tells of it, until that is whole.
+    pub header: Option<Box<Header>>,
+    /// Whether a user was let in.
+    pub is_known: bool,
     /// Of its frames; none before the first.
     pub number: Option<u64>,
     /// Whether it may still send: its end has not come, nor was it given one.
@@ -35,6 +46,10 @@ pub struct Client {
     /// What is waited for of its socket, and whether that waits for the program.
     pub armed: u32,
     pub is_paused: bool,
+    /// Whether it is heard again though its socket tells nothing.
+    pub is_ready: bool,
+    /// Whether its end is still to be said to it.
+    is_ending: bool,
 }
 
 /// What a client has sent.
@@ -49,10 +64,13 @@ fn is_passing(error: &io::Error) -> bool {
 }
 
 impl Client {
-    pub fn new(socket: TcpStream, address: Option<IpAddr>, window: u64, now: u64) -> Client {
+    pub fn new(socket: TcpStream, contexts: Option<Rc<Contexts>>, address: Option<IpAddr>, window: u64, now: u64) -> Client {
         Client {
-            socket,
+            wire: Wire::new(socket, contexts),
             address,
+            place: None,
+            header: None,
+            is_known: false,
             number: None,
             hears: true,
             has_ended: false,
@@ -66,10 +84,17 @@ impl Client {
             times: Times::new(now),
             armed: 0,
             is_paused: false,
+            is_ready: false,
+            is_ending: false,
         }
     }
 
     pub fn waits_for_nothing(&self) -> bool {
+        self.has_all() && !self.is_ending
+    }
+
+    /// Whether all bytes were sent to it.
+    pub fn has_all(&self) -> bool {
         self.from == self.unsent.len()
     }
 
@@ -89,7 +114,7 @@ impl Client {
     /// Passes on what it has sent.
     pub fn hear(&mut self, to: &mut ToProgram, now: u64) -> io::Result<Sent> {
         let most = self.granted.min(PIECE as u64) as usize;
-        match to.pass_on(&mut self.number, self.address, &mut self.socket, most) {
+        match to.pass_on(&mut self.number, self.address, &mut self.wire, most) {
             Ok(0) => Ok(Sent::End),
             Ok(count) => {
                 self.granted -= count as u64;
@@ -126,7 +151,7 @@ impl Client {
 
     /// How much of it is taken at once.
     fn send(&mut self, bytes: &[u8]) -> io::Result<usize> {
-        let count = match self.socket.write(bytes) {
+        let count = match self.wire.write(bytes) {
             Err(error) if is_passing(&error) => 0,
             result => result?,
         };
@@ -144,7 +169,7 @@ impl Client {
     /// Sends what waits for it.
     pub fn send_more(&mut self, now: u64) -> io::Result<()> {
         let mut waiting = std::mem::take(&mut self.unsent);
-        let count = self.send(&waiting[self.from..])?;
+        let count = if self.from == waiting.len() { 0 } else { self.send(&waiting[self.from..])? };
         self.from += count;
         if count > 0 {
             self.times.took(now);
@@ -173,18 +198,19 @@ impl Client {
 
     /// Once all was sent to a connection that is over: whether it is to be closed. Else it is shut for writing, and drained.
     pub fn finish(&mut self, now: u64) -> bool {
-        if !self.has_ended && self.socket.shutdown(Shutdown::Write).is_ok() {
+        let said = if self.has_ended { self.wire.say_end() } else { self.wire.shut() };
+        self.is_ending = matches!(&said, Err(error) if is_passing(error));
+        if said.is_ok() && !self.has_ended {
             self.drained = Some(DRAINED);
             self.times = Times::new(now);
-            return false;
         }
-        true
+        !self.is_ending && !self.lingers()
     }
 
     /// Drops what it sends behind its end; whether it is to be closed.
     pub fn drain(&mut self) -> bool {
         let mut room = [0; PIECE];
-        match self.socket.read(&mut room) {
+        match self.wire.socket.read(&mut room) {
             Ok(count) => {
                 let left = self.drained.unwrap_or(0).saturating_sub(count);
                 self.drained = Some(left);
@@ -192,6 +218,16 @@ impl Client {
             }
             Err(error) => !is_passing(&error),
         }
+    }
+
+    /// What is waited for of its socket.
+    pub fn wanted(&self) -> u32 {
+        let reads = match self.wire.wants() {
+            _ if !self.is_read() => 0,
+            0 => IN,
+            wants => wants,
+        };
+        reads | if self.waits_for_nothing() { 0 } else { OUT }
     }
 
     /// Whether nothing was begun that is to be answered.
@@ -207,6 +243,11 @@ impl Client {
             _ => 2,
         };
         Some((rank, self.times.since)).filter(|_| self.lingers() || self.is_at_rest())
+    }
+
+    /// How long it has owed a request, where it does so for long, and sends little though it is heard.
+    pub fn lags(&self, limits: &Limits, now: u64) -> Option<u64> {
+        self.times.lags(limits, now).filter(|_| self.is_read() && !self.lingers())
     }
 
     /// Whether it is late. Where it isn't read, it can be so with taking alone.

@@ -1,19 +1,27 @@
 //! All clients: who is let in, what they are told, and who is late.
 use crate::client::{Client, Sent};
 use crate::frames::{self, Line};
+use crate::openssl::Contexts;
+use crate::places::{Place, Places};
 use crate::poll::Poll;
 use crate::program::{FromProgram, ToProgram, Told};
+use crate::proxied::{Header, Proxies, Told as Introduced};
+use crate::refusals::Refusals;
 use crate::system::{self, ERROR, HANG_UP, IN, OUT};
 use crate::times::{Late, Limits, Turn};
 use std::collections::HashMap;
 use std::io;
-use std::net::{IpAddr, Ipv6Addr, TcpStream};
+use std::net::{IpAddr, TcpStream};
 use std::os::unix::io::AsRawFd;
+use std::rc::Rc;
 
+const CROWDED: &str = "it has as many as one address may (--connections-per-address)";
 /// The keys of clients begin here; those below are of other files.
 pub const FIRST_KEY: u64 = 1024;
 /// A client that has rested for so many milliseconds may be closed to let another in.
 const RESTED: u64 = 1000;
+/// So many steps of handshakes are made in a turn, each of which may take a millisecond: whoever has done theirs waits no longer than that.
+const SHAKES: usize = 4;
 /// So much lies unsent in the kernel at most, beyond what is on its way.
 const UNSENT: i32 = 128 * 1024;
 
@@ -21,15 +29,19 @@ pub struct Clients {
     pub poll: Poll,
     pub to: ToProgram,
     pub limits: Limits,
-    /// How many there may be, and from one place.
+    /// How many there may be.
     most: usize,
-    most_from_one: usize,
+    places: Places,
+    proxies: Proxies,
     window: u64,
     by_key: HashMap<u64, Client>,
-    /// The keys of those that have begun and aren't over, by their numbers; how many come from a place; and who waits until the program takes more.
+    /// The keys of those that have begun and aren't over, by their numbers; and who waits until the program takes more.
     by_number: HashMap<u64, u64>,
-    by_place: HashMap<IpAddr, usize>,
     paused: Vec<u64>,
+    /// Who is heard again in the next turn, though no socket tells of it; and how many steps of handshakes are still made in this one.
+    ready: Vec<u64>,
+    shakes: usize,
+    pub refusals: Refusals,
     next_key: u64,
     is_stopping: bool,
     /// Whether the program has asked for more.
@@ -38,27 +50,22 @@ pub struct Clients {
     pub now: u64,
 }
 
-/// Where a client comes from, as it is counted: all of a network of IPv6 count as one.
-fn place_of(address: IpAddr) -> IpAddr {
-    match address {
-        IpAddr::V4(_) => address,
-        IpAddr::V6(it) => IpAddr::V6(Ipv6Addr::from(u128::from(it) >> 64 << 64)),
-    }
-}
-
 impl Clients {
-    pub fn new(poll: Poll, limits: Limits, most: (usize, usize), window: u64) -> Clients {
+    pub fn new(poll: Poll, limits: Limits, most: (usize, usize), window: u64, proxies: Proxies) -> Clients {
         Clients {
             poll,
             to: ToProgram::new(),
             limits,
             most: most.0,
-            most_from_one: most.1,
+            places: Places::new(most.0, most.1),
+            proxies,
             window,
             by_key: HashMap::new(),
             by_number: HashMap::new(),
-            by_place: HashMap::new(),
             paused: Vec::new(),
+            ready: Vec::new(),
+            shakes: SHAKES,
+            refusals: Refusals::default(),
             next_key: FIRST_KEY,
             is_stopping: false,
             is_asked: false,
@@ -76,14 +83,15 @@ impl Clients {
 
     // ---- Who comes and goes.
 
-    pub fn admit(&mut self, socket: TcpStream, address: Option<IpAddr>) {
-        let place = address.map(place_of);
-        let count = place.and_then(|it| self.by_place.get(&it)).copied().unwrap_or(0);
-        if count >= self.most_from_one {
-            return;
+    /// With certificates it speaks TLS.
+    pub fn admit(&mut self, socket: TcpStream, address: Option<IpAddr>, contexts: Option<Rc<Contexts>>) {
+        let is_proxy = self.proxies.has(address);
+        let place = address.map(Place::of).filter(|_| !is_proxy);
+        if self.places.is_full(place) {
+            return self.refusals.note(address, CROWDED, self.now);
         }
         let key = self.next_key;
-        if place.is_some() {
+        if address.is_some() {
             // These make it quicker, and take less memory; it works without them.
             let _ = socket.set_nodelay(true);
             let _ = system::set_option(&socket, system::USER_TIMEOUT, self.limits.stall.min(1 << 30) as i32);
@@ -93,28 +101,84 @@ impl Clients {
             return;
         }
         self.next_key += 1;
-        place.map(|it| *self.by_place.entry(it).or_insert(0) += 1);
-        let mut client = Client::new(socket, address, self.window, self.now);
+        self.places.enter(place);
+        let mut client = Client::new(socket, contexts, address, self.window, self.now);
         client.armed = IN;
+        client.place = place;
+        client.header = Some(Box::<Header>::default()).filter(|_| is_proxy);
         self.by_key.insert(key, client);
     }
 
-    /// Closes whoever has rested longest, and long enough; first those that are over, then those that never sent anything. Whether there was one.
+    /// Reads what has come of a header; whether that has told of its client.
+    fn is_introduced(&mut self, key: u64) -> bool {
+        let (header, wire, proxy) = match self.by_key.get_mut(&key) {
+            Some(Client { header: Some(header), wire, address, .. }) => (header, wire, *address),
+            _ => return false,
+        };
+        match header.read(&mut wire.socket) {
+            Ok(None) => return false,
+            Ok(Some(told)) => {
+                let address = if let Introduced::Client(address) = told { address } else { None };
+                let place = address.map(Place::of);
+                if !self.places.is_full(place) {
+                    self.introduce(key, told, place);
+                    return true;
+                }
+                self.refusals.note(address, CROWDED, self.now);
+            }
+            // A proxy that only looks whether someone is there.
+            Err(_) if header.is_empty() => {}
+            Err(error) => self.refusals.note(proxy, &format!("a proxy: {} (--proxy-protocol)", error), self.now),
+        }
+        self.lose(key);
+        false
+    }
+
+    fn introduce(&mut self, key: u64, told: Introduced, place: Option<Place>) {
+        if let Some(client) = self.by_key.get_mut(&key) {
+            client.header = None;
+            if let Introduced::Client(address) = told {
+                (client.address, client.place) = (address, place);
+                self.places.enter(place);
+            }
+        }
+    }
+
+    /// Closes one to let another in. Whether there was one.
     pub fn evict(&mut self) -> bool {
+        let resting = self.longest_at_rest();
+        let found = resting.or_else(|| self.longest_lagging());
+        found.map(|key| self.lose(key)).is_some()
+    }
+
+    /// Who has rested longest, and long enough; first those that are over, then those that never sent anything.
+    fn longest_at_rest(&self) -> Option<u64> {
         let resting = self.by_key.iter().filter_map(|(key, client)| Some((client.rests_since()?, *key)));
-        let found = resting.filter(|((_, since), _)| since + RESTED <= self.now).min();
-        found.map(|(_, key)| self.lose(key)).is_some()
+        resting.filter(|((_, since), _)| since + RESTED <= self.now).min().map(|(_, key)| key)
+    }
+
+    /// Who has owed a request longest, and sends little: first of a crowd, then of those that are not known. None where a connection that is over makes room soon.
+    fn longest_lagging(&mut self) -> Option<u64> {
+        if self.by_key.values().any(Client::lingers) {
+            return None;
+        }
+        let lagging = self.by_key.iter().filter_map(|(key, client)| {
+            let time = client.lags(&self.limits, self.now)?;
+            let is_of_crowd = self.places.is_crowd(client.place);
+            let is_known = client.is_known || self.places.is_known(client.place);
+            Some((is_of_crowd, time, *key)).filter(|_| is_of_crowd || !is_known)
+        });
+        let (_, _, key) = lagging.max()?;
+        let address = self.by_key.get(&key).and_then(|client| client.address);
+        self.refusals.note(address, "all places were taken, and it owed a request and sent little", self.now);
+        Some(key)
     }
 
     fn close(&mut self, key: u64) {
-        if let Some(client) = self.by_key.remove(&key) {
+        if let Some(mut client) = self.by_key.remove(&key) {
+            let _ = client.wire.say_end();
             client.number.map(|number| self.by_number.remove(&number));
-            if let Some(place) = client.address.map(place_of) {
-                match self.by_place.get_mut(&place) {
-                    Some(count) if *count > 1 => *count -= 1,
-                    _ => drop(self.by_place.remove(&place)),
-                }
-            }
+            self.places.leave(client.place);
         }
     }
 
@@ -158,19 +222,54 @@ impl Clients {
         if events & ERROR != 0 {
             return self.lose(key);
         }
+        // TLS may have to write before it can read on.
+        let writes = events & OUT != 0 && self.by_key.get(&key).map_or(false, |client| client.wire.wants() & OUT != 0);
         if events & OUT != 0 {
             self.send(key);
         }
-        if events & (IN | HANG_UP) != 0 {
+        if events & (IN | HANG_UP) != 0 || writes {
             self.hear(key, events & HANG_UP != 0);
+        }
+    }
+
+    /// Begins a turn; whether something is to be heard that no socket tells of.
+    pub fn begin_turn(&mut self) -> bool {
+        self.shakes = SHAKES;
+        !self.ready.is_empty()
+    }
+
+    /// Hears those of whom more has come than their sockets tell.
+    pub fn hear_ready(&mut self) {
+        for key in std::mem::take(&mut self.ready) {
+            if let Some(client) = self.by_key.get_mut(&key) {
+                client.is_ready = false;
+                self.hear(key, false);
+            }
         }
     }
 
     fn hear(&mut self, key: u64, has_hung_up: bool) {
         let client = match self.by_key.get_mut(&key) {
-            Some(client) => client,
+            Some(client) if client.header.is_none() => client,
+            Some(_) => {
+                return if self.is_introduced(key) {
+                    self.hear(key, has_hung_up)
+                }
+            }
             None => return,
         };
+        if client.wire.is_shaking() && !client.lingers() {
+            if client.wire.refuses_http() {
+                self.refusals.note(client.address, "it speaks HTTP without TLS", self.now);
+                client.is_over = true;
+                return self.settle(key);
+            }
+            if self.shakes == 0 {
+                // The poll tells of it again.
+                return;
+            }
+            self.shakes -= 1;
+        }
         if client.lingers() {
             if client.drain() || has_hung_up {
                 self.close(key);
@@ -191,6 +290,10 @@ impl Clients {
             (Ok(Sent::Bytes), Some(number)) if !is_known => drop(self.by_number.insert(number, key)),
             (Ok(Sent::Bytes), _) => {}
             (Ok(Sent::Nothing), _) if !has_hung_up => {}
+            (Err(error), None) if !client.wire.is_plain() => {
+                self.refusals.note(client.address, &format!("TLS: {}", error), self.now);
+                return self.lose(key);
+            }
             _ => return self.lose(key),
         }
         self.arm(key);
@@ -209,7 +312,7 @@ impl Clients {
     /// Once all was sent to a connection that is over, it is finished.
     fn settle(&mut self, key: u64) {
         if let Some(client) = self.by_key.get_mut(&key) {
-            if client.is_over && !client.lingers() && client.waits_for_nothing() && client.finish(self.now) {
+            if client.is_over && !client.lingers() && client.has_all() && client.finish(self.now) {
                 return self.close(key);
             }
             self.arm(key);
@@ -218,10 +321,14 @@ impl Clients {
 
     fn arm(&mut self, key: u64) {
         if let Some(client) = self.by_key.get_mut(&key) {
-            let wanted = if client.is_read() { IN } else { 0 } | if client.waits_for_nothing() { 0 } else { OUT };
+            if client.is_read() && client.wire.has_more() && !client.is_ready {
+                client.is_ready = true;
+                self.ready.push(key);
+            }
+            let wanted = client.wanted();
             if wanted != client.armed {
                 client.armed = wanted;
-                if self.poll.change(client.socket.as_raw_fd(), wanted, key).is_err() {
+                if self.poll.change(client.wire.socket.as_raw_fd(), wanted, key).is_err() {
                     self.lose(key);
                 }
             }
@@ -237,10 +344,11 @@ impl Clients {
             Told::Line(Line::Over(number)) => self.over(number),
             Told::Line(Line::Grant(number, bytes)) => {
                 if let Some(key) = self.by_number.get(&number).copied() {
-                    self.by_key.get_mut(&key).map(|client| client.grant(bytes));
+                    self.by_key.get_mut(&key).into_iter().for_each(|client| client.grant(bytes));
                     self.arm(key);
                 }
             }
+            Told::Line(Line::Known(number)) => self.know(number),
             Told::Line(Line::Rests(number, bytes)) => self.waits(number, Turn::Rests, bytes),
             Told::Line(Line::Owes(number, bytes)) => self.waits(number, Turn::Owes, bytes),
             // Its bytes come behind it; and that the program is ready is no client's matter.
@@ -265,10 +373,10 @@ impl Clients {
         let key = from.long_piece().and_then(|number| self.by_number.get(&number).copied());
         let found = key.and_then(|key| Some((key, self.by_key.get_mut(&key)?)));
         let (key, client) = match found {
-            Some((key, client)) if client.waits_for_nothing() => (key, client),
+            Some((key, client)) if client.waits_for_nothing() && client.wire.is_plain() => (key, client),
             _ => return false,
         };
-        match from.move_to(&client.socket) {
+        match from.move_to(&client.wire.socket) {
             Ok(count) if count > 0 => client.was_sent(count, self.now),
             // What doesn't go this way is read: then it is known why.
             _ => return false,
@@ -285,6 +393,15 @@ impl Clients {
                 client.hears = false;
             }
             self.settle(key);
+        }
+    }
+
+    /// A user was let in: whoever comes from there makes no room for others from now on.
+    fn know(&mut self, number: u64) {
+        let key = self.by_number.get(&number);
+        if let Some(client) = key.and_then(|key| self.by_key.get_mut(key)) {
+            client.is_known = true;
+            client.place.into_iter().for_each(|place| self.places.know(place));
         }
     }
 
@@ -311,7 +428,7 @@ impl Clients {
         self.to.write_out()?;
         if self.to.has_room() {
             for key in std::mem::take(&mut self.paused) {
-                self.by_key.get_mut(&key).map(|client| client.is_paused = false);
+                self.by_key.get_mut(&key).into_iter().for_each(|client| client.is_paused = false);
                 self.arm(key);
             }
         }
@@ -322,6 +439,7 @@ impl Clients {
 
     /// Sends away who is late; and those that rest, once the listener is to stop.
     pub fn look_at_times(&mut self) {
+        self.refusals.tell(self.now);
         let late = |client: &Client| {
             let ends = self.is_stopping && client.is_at_rest();
             client.late(&self.limits, self.now).or_else(|| Some(Late::Sends).filter(|_| ends))
@@ -347,5 +465,5 @@ impl Clients {
 
 /// A failed call that has no remedy but to wait: there are too many files, or there is no memory.
 pub fn is_want(error: &io::Error) -> bool {
-    matches!(error.raw_os_error(), Some(12 | 23 | 24 | 105))
+    error.raw_os_error().map_or(false, |it| system::WANTS.contains(&it))
 }

@@ -1,52 +1,48 @@
 //! Listens for clients, and moves their bytes to a program and back, in frames (docs/FORMATS.md, "Frames"). It knows nothing of what they say.
 //!
-//! One thread waits for all files at once, and no call blocks. All that is unsafe stands in the module `system`.
+//! One thread waits for all files at once, and no call blocks. All that is unsafe stands in the modules `system`, and of TLS in `openssl`.
 
 #![deny(unsafe_op_in_unsafe_fn)]
 
 mod addresses;
+mod certificates;
 mod client;
 mod clients;
+mod fault;
 mod frames;
 mod notify;
+mod openssl;
 mod options;
+mod places;
 mod poll;
 mod program;
+mod proxied;
+mod refusals;
 mod runs;
 mod server;
+mod sockets;
 mod system;
 mod telling;
 mod times;
 mod users;
+mod wire;
 
-use addresses::{Address, Listener};
+use addresses::Listener;
+use certificates::Certificates;
+use fault::{Fault, FAILED, LAST_OF_PROGRAM, NO_PROGRAM, PROGRAM_ENDED, PROGRAM_KILLED, STOPPED, TOO_FEW_FILES, WRONG_FRAME};
 use options::{Options, USAGE};
 use program::Pipes;
 use runs::Runs;
-use server::{End, Manner, Server};
+use server::{End, Files, Manner, Server};
 use std::fmt::Arguments;
 use std::fs::{read_to_string, File};
-use std::io::{self, ErrorKind, Write};
-use std::path::Path;
+use std::io::{self, Write};
 use std::process::{exit, Child, ExitStatus};
 use std::thread::sleep;
 use std::time::{Duration, Instant};
 use telling::Telling;
 use users::Users;
 
-/// How it ends: by a signal; where no client can come; by wrong words; where the program can't be run; with too few files; where the program tells what is no frame; where the system fails it; where the users can't be read.
-const STOPPED: i32 = 0;
-const NO_ADDRESS: i32 = 1;
-const WRONG_WORDS: i32 = 2;
-const NO_PROGRAM: i32 = 3;
-const TOO_FEW_FILES: i32 = 4;
-const WRONG_FRAME: i32 = 5;
-const FAILED: i32 = 6;
-const NO_USERS: i32 = 7;
-/// Where the program has ended by itself: its own status behind this, or the last of these; and where a signal has ended it.
-const PROGRAM_ENDED: i32 = 20;
-const LAST_OF_PROGRAM: i32 = 39;
-const PROGRAM_KILLED: i32 = 40;
 /// By this status, or a lower one, the program says that all that it did is kept.
 const ALL_KEPT: i32 = 1;
 
@@ -58,82 +54,76 @@ pub fn say(what: Arguments) {
     let _ = writeln!(io::stderr(), "listen: {}", what);
 }
 
-fn end(status: i32, why: Arguments) -> ! {
-    say(why);
-    exit(status)
-}
-
 fn main() {
     let words: Vec<_> = std::env::args_os().skip(1).collect();
     if words.len() == 1 && words[0] == "--help" {
         let _ = io::stdout().write_all(USAGE.as_bytes());
         return;
     }
-    let options = Options::read(words.into_iter()).unwrap_or_else(|why| {
+    let options = Options::read(words.into_iter()).map_err(|why| {
         let _ = io::stderr().write_all(USAGE.as_bytes());
-        end(WRONG_WORDS, format_args!("{}", why))
+        why
     });
-    check_files(options.connections as u64);
-    let users = options.users.as_deref().map(open_users);
-    let listeners = listen(&options.addresses);
-    match serve(&options, listeners, users) {
-        Ok(status) => exit(status),
-        Err(error) => end(FAILED, format_args!("the system fails: {}", error)),
-    }
+    let status = options.and_then(|options| run(&options)).unwrap_or_else(|why| {
+        say(format_args!("{}", why));
+        why.status()
+    });
+    exit(status)
 }
 
-fn check_files(connections: u64) {
-    let (most, needed) = (system::limit(system::FILES, u64::MAX), connections + OTHER_FILES);
-    match most {
-        Ok(most) if most < needed => {
-            end(TOO_FEW_FILES, format_args!("{} connections need {} files, and {} may be open: see ulimit -n", connections, needed, most))
-        }
-        _ => {}
-    }
+/// Opens all that the options name, and serves.
+fn run(options: &Options) -> Result<i32, Fault> {
+    check_files(options.connections as u64)?;
+    let users = options.users.as_deref().map(Users::open).transpose()?;
+    let certificates = Certificates::open(&options.certificates)?;
+    let listeners = listen(&options.addresses, certificates.is_some())?;
+    serve(options, listeners, Files { users, certificates })
 }
 
-fn open_users(path: &Path) -> Users {
-    Users::open(path).unwrap_or_else(|error| end(NO_USERS, format_args!("the users of {}: {}", path.display(), error)))
+fn check_files(connections: u64) -> Result<(), Fault> {
+    let needed = connections + OTHER_FILES;
+    match system::limit(system::FILES, u64::MAX) {
+        Ok(most) if most < needed => Err(Fault::new(
+            TOO_FEW_FILES,
+            format_args!("{} connections need {} files, and {} may be open: see ulimit -n", connections, needed, most),
+        )),
+        _ => Ok(()),
+    }
 }
 
 /// Where clients come: what is handed over, and what is asked for.
-fn listen(words: &[String]) -> Vec<Listener> {
-    let handed = addresses::handed_over();
-    let mut listeners = handed.unwrap_or_else(|error| end(NO_ADDRESS, format_args!("a socket that is handed over: {}", error)));
+fn listen(words: &[String], has_certificates: bool) -> Result<Vec<Listener>, Fault> {
+    let mut listeners = addresses::handed_over(has_certificates)?;
     let default = ["127.0.0.1:8080".to_string()];
     let words = if words.is_empty() && listeners.is_empty() { &default } else { words };
     for word in words {
-        let found = addresses::read(word).unwrap_or_else(|why| end(WRONG_WORDS, format_args!("{}", why)));
-        listeners.extend(found.iter().map(|address| open(word, address)));
-    }
-    listeners
-}
-
-fn open(word: &str, address: &Address) -> Listener {
-    Listener::open(address).unwrap_or_else(|error| match (error.kind(), address) {
-        (ErrorKind::AddrInUse, Address::Internet(it)) => {
-            end(NO_ADDRESS, format_args!("port {} is in use; take another one, or 0 for any that is free", it.port()))
+        let (place, speaks_tls) = addresses::spoken(word, has_certificates);
+        if speaks_tls && !has_certificates {
+            return Err(Fault::words(format_args!("{}: there is no --tls-cert", word)));
         }
-        _ => end(NO_ADDRESS, format_args!("{}: {}", word, error)),
-    })
+        for address in addresses::read(place)? {
+            listeners.push(Listener::open(word, &address, speaks_tls)?);
+        }
+    }
+    Ok(listeners)
 }
 
 /// Runs the program and serves; the status is that of the end.
-fn serve(options: &Options, listeners: Vec<Listener>, users: Option<Users>) -> io::Result<i32> {
+fn serve(options: &Options, listeners: Vec<Listener>, files: Files) -> Result<i32, Fault> {
     let signals = File::from(system::signals()?);
     let memory = options.memory.unwrap_or_else(half_of_memory);
     let mut runs = Runs::new(&options.program);
-    let (mut child, pipes) = run(&runs, memory);
+    let (mut child, pipes) = begin(&runs, memory)?;
     let most = (options.connections, options.connections_per_address);
-    let clients = clients::Clients::new(poll::Poll::new()?, options.limits, most, options.window);
+    let clients = clients::Clients::new(poll::Poll::new()?, options.limits, most, options.window, options.proxies.clone());
     let telling = Telling::new(options, &listeners, memory);
     let keeps_late = options.program.windows(2).any(|words| words[0] == "--sync" && words[1] == "second");
-    let mut server = Server::new(clients, listeners, signals, users, telling, Manner { grace: options.grace, keeps_late })?;
+    let mut server = Server::new(clients, listeners, signals, files, telling, Manner { grace: options.grace, keeps_late })?;
     server.begin(pipes)?;
     loop {
         match server.run() {
             End::Due => {
-                let (next, pipes) = run(&runs, memory);
+                let (next, pipes) = begin(&runs, memory)?;
                 child = next;
                 server.begin(pipes)?;
             }
@@ -148,10 +138,10 @@ fn serve(options: &Options, listeners: Vec<Listener>, users: Option<Users>) -> i
     }
 }
 
-fn run(runs: &Runs, memory: u64) -> (Child, Pipes) {
+/// Runs the program.
+fn begin(runs: &Runs, memory: u64) -> Result<(Child, Pipes), Fault> {
     let started = program::start(runs.words(), Some(memory).filter(|bytes| *bytes > 0));
-    let name = runs.words()[0].to_string_lossy();
-    started.unwrap_or_else(|error| end(NO_PROGRAM, format_args!("{}: {}", name, error)))
+    started.map_err(|error| Fault::new(NO_PROGRAM, format_args!("{}: {}", runs.words()[0].to_string_lossy(), error)))
 }
 
 /// Whether a program that has ended is run again; then why and when is said, and it is paused until then.

@@ -1,5 +1,6 @@
 //! The loop: whatever comes, from clients, the program or a signal, is looked at in turn.
 use crate::addresses::Listener;
+use crate::certificates::Certificates;
 use crate::clients::{is_want, Clients, FIRST_KEY};
 use crate::frames::{self, Line};
 use crate::notify::notify;
@@ -52,6 +53,7 @@ pub struct Server {
     users: Option<Users>,
     /// Whether their file is to be read again, once the program has taken most of what waits for it.
     reads_users: bool,
+    certificates: Option<Certificates>,
     grace: u64,
     began: Instant,
     /// Whether clients are let in, and from when on again; when times are looked at next; when a stop has no more grace.
@@ -64,6 +66,12 @@ pub struct Server {
     keeps: Option<u64>,
     /// Whether the pipe to the program is waited for.
     is_writing: bool,
+}
+
+/// What is read at the start, and again on a hang-up.
+pub struct Files {
+    pub users: Option<Users>,
+    pub certificates: Option<Certificates>,
 }
 
 /// How it serves, by its words.
@@ -79,7 +87,7 @@ impl Server {
         clients: Clients,
         listeners: Vec<Listener>,
         signals: File,
-        users: Option<Users>,
+        files: Files,
         telling: Telling,
         manner: Manner,
     ) -> io::Result<Server> {
@@ -95,7 +103,8 @@ impl Server {
             telling: Some(telling),
             listeners,
             signals,
-            users,
+            users: files.users,
+            certificates: files.certificates,
             reads_users: false,
             grace: manner.grace,
             began: Instant::now(),
@@ -172,13 +181,19 @@ impl Server {
         // Where the program asks for more, all that has come by now is looked at first.
         let is_asked = self.clients.is_asked;
         let next = if self.from.is_none() { self.ticks.min(self.due) } else { self.ticks };
-        let time = if is_asked { 0 } else { next.saturating_sub(self.clients.now) as i32 };
-        let is_idle = self.clients.is_empty() && self.listens && self.stops.is_none() && self.keeps.is_none() && self.from.is_some();
-        let time = if is_idle && !is_asked { -1 } else { time };
+        let hears = self.clients.begin_turn();
+        let time = match is_asked || hears {
+            true => 0,
+            false if self.is_idle() => self.certificates.as_ref().map_or(-1, |it| it.due().saturating_sub(self.clients.now) as i32),
+            false => next.saturating_sub(self.clients.now) as i32,
+        };
         let count = self.clients.poll.wait(events, time).map_err(|error| End::Failed("waiting", error))?;
         self.clients.now = self.began.elapsed().as_millis() as u64;
         for event in &events[..count] {
             self.handle(event.key, event.events)?;
+        }
+        if hears {
+            self.clients.hear_ready();
         }
         if is_asked {
             self.clients.say_none();
@@ -193,6 +208,8 @@ impl Server {
             self.clients.look_at_times();
             self.write_out()?;
         }
+        let now = self.clients.now;
+        self.certificates.iter_mut().for_each(|it| it.look(now));
         if !self.listens && self.stops.is_none() && self.clients.now >= self.listens_again {
             self.listen(true)?;
         }
@@ -201,6 +218,12 @@ impl Server {
             None if self.from.is_none() && self.clients.now >= self.due => Err(End::Due),
             _ => Ok(()),
         }
+    }
+
+    /// Whether nothing has a time.
+    fn is_idle(&self) -> bool {
+        let is_told = self.clients.is_empty() && self.clients.refusals.is_empty();
+        is_told && self.listens && self.stops.is_none() && self.keeps.is_none() && self.from.is_some()
     }
 
     fn handle(&mut self, key: u64, events: u32) -> Result<(), End> {
@@ -279,8 +302,13 @@ impl Server {
                 self.listens_again = self.clients.now + if count > 0 { 0 } else { TICK / 10 };
                 return if count > 0 { Ok(()) } else { self.listen(false) };
             }
-            match self.listeners.get(at).map(Listener::accept) {
-                Some(Ok((socket, place))) => self.clients.admit(socket, place),
+            let listener = self.listeners.get(at);
+            match listener.map(Listener::accept) {
+                Some(Ok((socket, place))) => {
+                    let speaks_tls = listener.map_or(false, |it| it.speaks_tls);
+                    let contexts = self.certificates.as_ref().filter(|_| speaks_tls).map(Certificates::contexts);
+                    self.clients.admit(socket, place, contexts)
+                }
                 Some(Err(error)) if error.kind() == ErrorKind::WouldBlock => return Ok(()),
                 Some(Err(error)) if is_want(&error) => {
                     say(format_args!("nobody is let in for a second: {}", error));
@@ -327,6 +355,7 @@ impl Server {
         while matches!(self.signals.read(&mut told), Ok(128)) {
             if told[..4] == system::HUNG_UP.to_ne_bytes() {
                 self.reads_users = true;
+                self.read_certificates();
                 continue;
             }
             if self.stops.is_some() {
@@ -337,11 +366,26 @@ impl Server {
                 // Nobody can be answered.
                 return Err(End::Stopped);
             }
-            self.listeners.clear();
+            for listener in self.listeners.drain(..) {
+                // Who has handed it over may still have it, and then the poll would go on telling of it.
+                let _ = self.clients.poll.remove(listener.file());
+            }
             self.stops = Some(self.clients.now + self.grace);
             self.clients.stop();
         }
         Ok(())
+    }
+
+    // ---- Certificates.
+
+    /// Reads them again. Where something is wrong, that is said, and they stay.
+    fn read_certificates(&mut self) {
+        if let Some(it) = &mut self.certificates {
+            match it.read_again() {
+                Ok(()) => say(format_args!("the certificates are read again")),
+                Err(error) => say(format_args!("the certificates stay: {}", error)),
+            }
+        }
     }
 
     // ---- The users.
@@ -358,6 +402,7 @@ impl Server {
         self.reads_users = false;
         let users = match &mut self.users {
             Some(users) => users,
+            None if self.certificates.is_some() => return,
             None => return say(format_args!("a hang-up has changed nothing: there is no --users")),
         };
         let read = users.read_again();

@@ -16,9 +16,10 @@ impl Telling {
         if memory > 0 {
             lines.push(format!("the program may take {} MB of memory (--memory)", memory / 1_000_000));
         }
-        let open: Vec<_> = listeners.iter().filter(|it| it.is_open()).map(Listener::name).collect();
-        if !open.is_empty() {
-            lines.extend(dangers(options, &open.join(" ")));
+        lines.extend(dangers(options, &names(listeners, Listener::is_open), &names(listeners, |it| it.is_open() && !it.speaks_tls)));
+        let elsewhere = options.proxies.elsewhere();
+        if !elsewhere.is_empty() {
+            lines.push(format!("whoever is at {} can say to be at any address (--proxy-protocol)", elsewhere.join(" ")));
         }
         Telling { urls: listeners.iter().map(Listener::name).collect(), lines }
     }
@@ -36,14 +37,24 @@ impl Telling {
     }
 }
 
-/// What everyone can do who reaches these addresses.
-fn dangers(options: &Options, open: &str) -> Vec<String> {
-    let has = |name: &str| options.program.iter().any(|word| word == name);
+/// The names of those of which something holds.
+fn names(listeners: &[Listener], is_told: fn(&Listener) -> bool) -> String {
+    listeners.iter().filter(|it| is_told(it)).map(Listener::name).collect::<Vec<_>>().join(" ")
+}
+
+/// What everyone can do who reaches the open addresses, of which some speak no TLS.
+fn dangers(options: &Options, open: &str, plain: &str) -> Vec<String> {
+    let has = |name: &str| options.program_has(name);
     let mut lines = Vec::new();
+    if open.is_empty() {
+        return lines;
+    }
     if options.users.is_some() || has("--users") {
-        lines.push(format!(
-            "whoever stands between a client and {open} can read passwords, unless only a proxy gets there: no TLS is spoken"
-        ));
+        if !plain.is_empty() {
+            lines.push(format!(
+                "whoever stands between a client and {plain} can read passwords, unless only a proxy gets there: no TLS is spoken"
+            ));
+        }
     } else {
         let what = match (has("--user-header"), has("--read-only")) {
             (true, _) => "name itself any user, unless only a proxy gets there",

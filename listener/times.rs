@@ -36,6 +36,35 @@ pub enum Late {
     Takes,
 }
 
+/// In milliseconds.
+const QUARTER: u64 = 250;
+const SECOND: u64 = 1000;
+
+/// How many bytes came in each of the last quarters of a second, of which the last one has only begun.
+#[derive(Clone, Copy, Debug, Default)]
+struct Recent {
+    counts: [u64; 5],
+    /// The number of the last quarter.
+    last: u64,
+}
+
+impl Recent {
+    fn add(&mut self, bytes: u64, now: u64) {
+        let quarter = now / QUARTER;
+        for passed in (self.last + 1..=quarter).rev().take(self.counts.len()) {
+            self.counts[passed as usize % self.counts.len()] = 0;
+        }
+        self.last = quarter;
+        self.counts[quarter as usize % self.counts.len()] += bytes;
+    }
+
+    /// How many came in the last second, or a quarter more.
+    fn sum(mut self, now: u64) -> u64 {
+        self.add(0, now);
+        self.counts.iter().sum()
+    }
+}
+
 /// The times of one connection, by a clock in milliseconds.
 #[derive(Clone, Copy, Debug)]
 pub struct Times {
@@ -47,11 +76,12 @@ pub struct Times {
     /// How long the client owed bytes of this request before, and how many came of it.
     owed: u64,
     asked: u64,
+    recent: Recent,
 }
 
 impl Times {
     pub fn new(now: u64) -> Times {
-        Times { turn: Turn::Silent, since: now, took: now, owed: 0, asked: 0 }
+        Times { turn: Turn::Silent, since: now, took: now, owed: 0, asked: 0, recent: Recent::default() }
     }
 
     /// The client has sent so many bytes.
@@ -63,6 +93,7 @@ impl Times {
         }
         self.turn = Turn::Program;
         self.asked += bytes;
+        self.recent.add(bytes, now);
     }
 
     /// The program waits for the client, and all that it has sent was looked at.
@@ -79,6 +110,12 @@ impl Times {
     /// The client has taken something, or something begins to wait for it.
     pub fn took(&mut self, now: u64) {
         self.took = now;
+    }
+
+    /// How long it has owed bytes of a request, where that is a second or more, and it has sent fewer than twice the rate in the last one.
+    pub fn lags(&self, limits: &Limits, now: u64) -> Option<u64> {
+        let time = self.owed + now - self.since.max(self.took);
+        Some(time).filter(|_| self.turn == Turn::Owes && time >= SECOND && self.recent.sum(now) < 2 * limits.rate)
     }
 
     /// Whether a client is late; `is_full` says whether something waits for it.
@@ -124,6 +161,31 @@ mod tests {
         }
         // Each byte is owed for 10 milliseconds, and gives one.
         assert_eq!(now, 3 * 1010);
+    }
+
+    #[test]
+    fn who_sends_little_lags() {
+        for (each, wanted) in [(1, true), (399, true), (400, false), (5000, false)] {
+            let mut times = Times::new(0);
+            for now in (0..4000).step_by(250) {
+                times.sent(each, now);
+                times.waits(Turn::Owes, now);
+            }
+            // Five times as many come in a second and the quarter that has begun.
+            assert_eq!(times.lags(&LIMITS, 3999).is_some(), wanted, "{}", each);
+        }
+    }
+
+    #[test]
+    fn who_has_sent_much_once_lags_a_second_later() {
+        let mut times = Times::new(0);
+        times.sent(1_000_000, 300);
+        assert_eq!(times.lags(&LIMITS, 5000), None);
+        times.waits(Turn::Owes, 5000);
+        // It had owed 300 milliseconds before.
+        assert_eq!((times.lags(&LIMITS, 5699), times.lags(&LIMITS, 5700)), (None, Some(1000)));
+        times.waits(Turn::Rests, 7000);
+        assert_eq!(times.lags(&LIMITS, 9000), None);
     }
 
     #[test]

@@ -4,7 +4,7 @@ behind.py serve|echo SEED [DEAF [WORD..]]     DEAF: once it is ready it reads no
 
 It first tells that it is ready, with `--login` once it knows the users. Where READY_WHEN is set, it waits for a file with this path before. Where NOTES is set, it appends its words to this file as it begins, and the moment; and the moment at which it ends by `end` or `die`.
 
-With `serve` it answers lines: `get N` by N bytes, `last N` by N bytes behind which the connection is over, `wait N` by `ok` after so many milliseconds, `work N` by the same while it does nothing else, `put N` and N bytes behind it by `ok` and N, `who` by the address that was told of its client, `users` by the names of the users, and any other by
+With `serve` it answers lines: `get N` by N bytes, `last N` by N bytes behind which the connection is over, `wait N` by `ok` after so many milliseconds, `work N` by the same while it does nothing else, `put N` and N bytes behind it by `ok` and N, `who` by the address that was told of its client, `know` by `ok`, behind which the listener is told that a user was let in, `users` by the names of the users, and any other by
 `refused`, behind which the connection is over. At `end N` it ends with this status, at `die` by SIGKILL. With `echo` it sends back what comes. What it tells is cut at random, and so it asks for more. Ends with 0, and says how many connections are left that are neither over nor gone; or with 4 and a reason where a frame is wrong.
 
 With `--login` it wants the users first of all, and else it wants none. A line of theirs without a colon is wrong: its number is told, and where these are the first users it ends with 7; else those before stay.
@@ -43,6 +43,8 @@ class Connection:
         self.at = self.left = 0
         # Whether it sends no more, is gone, is to be closed, and is closed; and whether something has come that it was not told of.
         self.has_ended = self.is_gone = self.closes = self.is_over = self.is_new = False
+        # Whether the listener is still to be told that a user was let in.
+        self.is_known = False
 
 
     def is_told(self):
@@ -197,6 +199,9 @@ class Program:
             it.out += b"ok\n"
         elif word == b"who":
             it.out += it.address + b"\n"
+        elif word == b"know":
+            it.out += b"ok\n"
+            it.is_known = True
         elif word == b"users":
             it.out += b",".join(self.users or []) + b"\n"
         elif word == b"put":
@@ -229,6 +234,9 @@ class Program:
             it.due = None
         while True:
             self.answer(it)
+            if it.is_known:
+                self.output += b"known %d\n" % number
+                it.is_known = False
             had = it.is_told()
             self.hand_out(number, it)
             if it.is_over or it.is_told() or not had or it.due is not None:
@@ -258,6 +266,15 @@ class Program:
             self.is_open = bool(piece)
             self.input += piece
 
+    def end_unheard(self):
+        """The listener has ended, and reads nothing more: what it wrote before is still looked at."""
+        while self.is_open:
+            self.read()
+            for words, piece in self.frames():
+                self.take(words, piece)
+        if not self.input:
+            self.tell_left()
+
     def run(self):
         while self.is_open:
             self.read()
@@ -270,8 +287,15 @@ class Program:
             if not self.asked and self.is_open and self.is_ready and self.random.random() < 0.3:
                 self.asked = 1
                 self.output += b"more\n"
-            self.write()
+            try:
+                self.write()
+            except BrokenPipeError:
+                self.end_unheard()
+                raise
         self.check(not self.input, "the end within a frame")
+        self.tell_left()
+
+    def tell_left(self):
         print("left", sum(not it.is_over and not it.is_gone for it in self.connections.values()), file=sys.stderr, flush=True)
 
 

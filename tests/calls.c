@@ -3,6 +3,8 @@
 //   FAILS=NAME:N:ERRNO   the N-th call of this name fails so, counted from 1
 //   COUNTS=FILE          at its end the number of calls of each name is written there, one a line
 //
+//   JUMP=FILE            from the moment at which this file is there, it is a day and an hour later
+//
 // In the programs that the listener runs it does nothing; nor to what std does of itself as the listener runs the first one, between the first pipe and the poll.
 #define _GNU_SOURCE
 #include <dlfcn.h>
@@ -15,6 +17,7 @@
 #include <sys/socket.h>
 #include <sys/syscall.h>
 #include <sys/types.h>
+#include <time.h>
 #include <unistd.h>
 
 enum { NAMES = 32 };
@@ -96,6 +99,14 @@ CALL(ssize_t, splice, (int from, off_t *at, int to, off_t *place, size_t most, u
 CALL(int, pipe2, (int ends[2], int flags), (ends, flags))
 CALL(pid_t, waitpid, (pid_t of, int *status, int options), (of, status, options))
 
+int clock_gettime(clockid_t clock, struct timespec *moment) {
+    const char *path = is_listener ? getenv("JUMP") : NULL;
+    long told = syscall(SYS_clock_gettime, clock, moment);
+    if (!told && path && !access(path, F_OK))
+        moment->tv_sec += 25 * 60 * 60;
+    return (int)told;
+}
+
 // A file is closed all the same.
 int close(int file) {
     int fail = fails("close");
@@ -103,4 +114,12 @@ int close(int file) {
     if (fail)
         errno = wrong;
     return fail ? -1 : (int)closed;
+}
+
+// It tells that it fails by null.
+void *dlopen(const char *path, int flags) {
+    static void *(*real)(const char *, int);
+    if (!real)
+        real = (void *(*)(const char *, int))dlsym(RTLD_NEXT, "dlopen");
+    return fails("dlopen") ? NULL : real(path, flags);
 }

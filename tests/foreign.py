@@ -24,13 +24,28 @@ def litmus(url, folder, suite, *login, may_skip=False):
     return told, have_passed and (may_skip or int(counts[0][0]) >= SUITES[suite] and "skipped" not in told.lower())
 
 
+# The certificates that clients trust that have no option for one more.
+TRUSTED = "/etc/ssl/certs/ca-certificates.crt"
+# In a folder of mounts of its own a command sees another file there.
+TRUSTING = ["unshare", "--mount", "sh", "-c", f'mount --bind "$0" {TRUSTED} && exec "$@"']
+
+
+def made_certificate(folder):
+    """The words for a listener that speaks TLS to clients of 127.0.0.1, by a certificate of its own, and the path of that."""
+    start = os.path.join(os.path.dirname(os.path.abspath(__file__)), "..", "bin", "davserve")
+    subprocess.run([start, "--make-cert", "localhost,127.0.0.1", folder], stdout=subprocess.DEVNULL, check=True)
+    certificate = os.path.join(folder, "cert.pem")
+    return ["--tls-cert", certificate, "--tls-key", os.path.join(folder, "key.pem")], certificate
+
+
 class User(NamedTuple):
-    """Who works with a server: its URL, whose address is a number, a name and a password, and a folder for files of clients. Where there is no name, nobody logs in."""
+    """Who works with a server: its URL, whose address is a number, a name and a password, a folder for files of clients, and a certificate that is trusted. Where there is no name, nobody logs in."""
 
     url: str
     folder: str
     name: str = ""
     word: str = ""
+    trusts: str = ""
 
     @property
     def host(self):
@@ -41,6 +56,13 @@ class User(NamedTuple):
         known = {"HOME": self.folder, "PATH": os.pathsep.join([os.environ["PATH"], *FOLDERS]), "LC_ALL": "C.UTF-8", **more}
         ran = subprocess.run(words, cwd=self.folder, env=known, input=typed, stdout=subprocess.PIPE, stderr=subprocess.STDOUT, text=True, errors="replace", start_new_session=True, timeout=PATIENCE, check=False)
         return ran.stdout
+
+    def run_trusting(self, words, typed="", **more):
+        """The same, where the client trusts what the system does: the certificate is among that."""
+        if not self.trusts:
+            return self.run(words, typed, **more)
+        both = self.write("trusted.pem", (read(TRUSTED) + read(self.trusts)).decode())
+        return self.run([*TRUSTING, both, *words], typed, **more)
 
     def write(self, name, text):
         """The path of a file that nobody else reads."""
@@ -61,12 +83,13 @@ def read(path):
 
 def by_cadaver(user, sent, path, got):
     user.write(".netrc", f"machine {user.host.partition(':')[0]} login {user.name} password {user.word}\n" if user.name else "")
-    return user.run(["cadaver", "-r", "/dev/null", user.url], f"put {sent} {path}\nget {path} {got}\nquit\n")
+    return user.run_trusting(["cadaver", "-r", "/dev/null", user.url], f"put {sent} {path}\nget {path} {got}\nquit\n")
 
 
 def rclone(user, *words):
     obscured = ["--webdav-user", user.name, "--webdav-pass", user.run(["rclone", "obscure", "-"], user.word).strip()] if user.name else []
-    return user.run(["rclone", "--config", user.write("rclone.conf", ""), "--retries", "1", "--low-level-retries", "1", "--webdav-url", user.url, *obscured, *words])
+    trusting = ["--ca-cert", user.trusts] if user.trusts else []
+    return user.run(["rclone", "--config", user.write("rclone.conf", ""), *trusting, "--retries", "1", "--low-level-retries", "1", "--webdav-url", user.url, *obscured, *words])
 
 
 def by_rclone(user, sent, path, got):
@@ -80,8 +103,8 @@ SESSION = 'gio mount "$0" && gio copy "$1" "$0$2" && gio copy "$0$2" "$3"'
 def by_gvfs(user, sent, path, got):
     for_sockets = os.path.join(user.folder, "session")
     os.makedirs(for_sockets, 0o700, exist_ok=True)
-    url = f"dav://{user.name}@{user.host}/"
-    return user.run(["dbus-run-session", "sh", "-c", SESSION, url, sent, path, got], user.word + "\n", XDG_RUNTIME_DIR=for_sockets, GVFS_DISABLE_FUSE="1")
+    url = f"{'davs' if user.trusts else 'dav'}://{user.name}@{user.host}/"
+    return user.run_trusting(["dbus-run-session", "sh", "-c", SESSION, url, sent, path, got], user.word + "\n", XDG_RUNTIME_DIR=for_sockets, GVFS_DISABLE_FUSE="1")
 
 
 def by_davfs(user, sent, path, got):
@@ -101,7 +124,8 @@ def mounted_by_davfs(user, work):
     os.chmod(cache, 0o777)
     secrets = user.write("secrets", f"{user.url} {user.name} {user.word}\n")
     # Linux 6.18 lists no folder with the usual buffer.
-    settings = user.write("davfs2.conf", f"ask_auth 0\nbuf_size 64\nsecrets {secrets}\ncache_dir {cache}\n")
+    trusting = f"trust_server_cert {user.trusts}\n" if user.trusts else ""
+    settings = user.write("davfs2.conf", f"ask_auth 0\nbuf_size 64\nsecrets {secrets}\ncache_dir {cache}\n{trusting}")
     told = user.run(["mount.davfs", user.url, mount, "-o", f"conf={settings}"])
     if not os.path.ismount(mount):
         return told
@@ -140,11 +164,19 @@ def lacks_mounts(folder):
     return None if is_mounted else "the right to mount"
 
 
-def is_client_here(test, name, folder):
+def lacks_trust():
+    """What isn't there to have a client trust one certificate more; none where all is."""
+    if not os.path.exists(TRUSTED):
+        return TRUSTED
+    ran = subprocess.run([*TRUSTING, TRUSTED, "true"], stdout=subprocess.DEVNULL, stderr=subprocess.DEVNULL, check=False)
+    return "the right to mount" if ran.returncode else None
+
+
+def is_client_here(test, name, folder, by_tls=False):
     """Whether a client can be tried; where it can't, the test says why."""
     if not all(is_here(test, program) for program in CLIENTS[name][0]):
         return False
-    lack = lacks_mounts(folder) if name == "davfs2" else None
+    lack = lacks_mounts(folder) if name == "davfs2" else lacks_trust() if by_tls and name in ("cadaver", "gvfs") else None
     if lack:
         print(f"{test}: {lack} was not there, so nothing was tried with {name}", flush=True)
     return lack is None

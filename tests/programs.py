@@ -15,6 +15,7 @@ PACKAGES = {
     "cadaver": "cadaver",
     "curl": "curl",
     "haproxy": "haproxy",
+    "hitch": "hitch",
     "litmus": "litmus",
     "nginx": "nginx-light",
     "openssl": "openssl",

@@ -1,6 +1,4 @@
 //! Exporting: what stands in stores is put into a folder of the system.
-use crate::properties::time_of;
-use crate::sources::{at, member_of, names_of};
 use dav_files_core::fs::DavMetaData;
 use dav_files_core::memfs::MemFsStored;
 use dav_guarded_core::fs::Moment;
@@ -10,6 +8,7 @@ use std::collections::BTreeMap;
 use std::fs::{self, File, OpenOptions};
 use std::io::{self, BufWriter, ErrorKind, Write};
 use std::time::{Duration, SystemTime, UNIX_EPOCH};
+use store_changes::{at, member_of, names_of, time_of};
 use store_copies::Failure;
 use store_files::{Progress, sync_folder};
 use store_views::Paths;

@@ -1,13 +1,12 @@
 //! The program: it takes the words, does what they choose, and tells how that ended.
 use crate::choices::{Choices, What};
-use crate::importing::import;
 use crate::inputs::{BUFFER, input};
 use crate::looks::{export_at, look_at, tell_broken, tell_new};
-use crate::unlocking::unlock;
 use dav_guarded_core::fs::Moment;
 use std::alloc::AllocError;
 use std::env;
 use std::io::{self, BufWriter, ErrorKind, Write};
+use store_changes::{import, unlock};
 use store_copies::{Failure, follow, take};
 use store_files::{Anew, Naming, Uncompacted, compact_file, make_new, now, settle_file};
 use store_views::{Logged, log};

@@ -3,7 +3,7 @@ use crate::frames;
 use crate::openssl::Contexts;
 use crate::places::Place;
 use crate::program::{ToProgram, PIECE};
-use crate::proxied::Header;
+use crate::proxied::{Header, Told};
 use crate::system::{IN, OUT};
 use crate::times::{Late, Limits, Times, Turn};
 use crate::wire::Wire;
@@ -17,37 +17,37 @@ const DRAINED: usize = 1 << 20;
 pub struct Client {
     pub wire: Wire,
     /// Where it comes from; none where that is a unix socket.
-    pub address: Option<IpAddr>,
+    address: Option<IpAddr>,
     /// The place that it counts for, once that is known.
-    pub place: Option<Place>,
+    place: Option<Place>,
     /// What its proxy tells of it, until that is whole.
-    pub header: Option<Box<Header>>,
+    header: Option<Box<Header>>,
     /// Whether a user was let in.
-    pub is_known: bool,
+    is_known: bool,
     /// Of its frames; none before the first.
-    pub number: Option<u64>,
+    number: Option<u64>,
     /// Whether it may still send: its end has not come, nor was it given one.
-    pub hears: bool,
+    hears: bool,
     /// Whether its end has come.
-    pub has_ended: bool,
+    has_ended: bool,
     /// Whether the program has closed it.
-    pub is_over: bool,
+    is_over: bool,
     /// Once all was sent to it: how much more it is drained of.
     drained: Option<usize>,
     /// How much more it may send, and how much it has sent.
     granted: u64,
-    pub sent: u64,
+    sent: u64,
     /// What waits for it is from `from` on.
     unsent: Vec<u8>,
     from: usize,
     /// What it has taken and the program wasn't told.
     taken: u64,
-    pub times: Times,
+    times: Times,
     /// What is waited for of its socket, and whether that waits for the program.
-    pub armed: u32,
-    pub is_paused: bool,
+    armed: u32,
+    is_paused: bool,
     /// Whether it is heard again though its socket tells nothing.
-    pub is_ready: bool,
+    is_ready: bool,
     /// Whether its end is still to be said to it.
     is_ending: bool,
 }
@@ -64,6 +64,7 @@ fn is_passing(error: &io::Error) -> bool {
 }
 
 impl Client {
+    /// Its socket is waited for from now on.
     pub fn new(socket: TcpStream, contexts: Option<Rc<Contexts>>, address: Option<IpAddr>, window: u64, now: u64) -> Client {
         Client {
             wire: Wire::new(socket, contexts),
@@ -82,11 +83,123 @@ impl Client {
             from: 0,
             taken: 0,
             times: Times::new(now),
-            armed: 0,
+            armed: IN,
             is_paused: false,
             is_ready: false,
             is_ending: false,
         }
+    }
+
+    // ---- Who it is.
+
+    /// It counts for a place, or its proxy will tell of it first.
+    pub fn placed(mut self, place: Option<Place>, is_proxied: bool) -> Client {
+        self.place = place;
+        self.header = Some(Box::<Header>::default()).filter(|_| is_proxied);
+        self
+    }
+
+    pub fn address(&self) -> Option<IpAddr> {
+        self.address
+    }
+
+    pub fn place(&self) -> Option<Place> {
+        self.place
+    }
+
+    /// Of its frames; none before the first.
+    pub fn number(&self) -> Option<u64> {
+        self.number
+    }
+
+    /// Whether its proxy still has to tell of it.
+    pub fn is_proxied(&self) -> bool {
+        self.header.is_some()
+    }
+
+    /// Reads what has come of what its proxy tells; none where that is not whole.
+    pub fn read_header(&mut self) -> io::Result<Option<Told>> {
+        match &mut self.header {
+            Some(header) => header.read(&mut self.wire.socket),
+            None => Ok(None),
+        }
+    }
+
+    /// Whether its proxy has said nothing yet.
+    pub fn has_no_header(&self) -> bool {
+        self.header.as_ref().map_or(false, |it| it.is_empty())
+    }
+
+    /// Its proxy has told of it.
+    pub fn introduce(&mut self, told: Told, place: Option<Place>) {
+        self.header = None;
+        if let Told::Client(address) = told {
+            (self.address, self.place) = (address, place);
+        }
+    }
+
+    /// A user was let in.
+    pub fn know(&mut self) {
+        self.is_known = true;
+    }
+
+    pub fn is_known(&self) -> bool {
+        self.is_known
+    }
+
+    // ---- How far it is.
+
+    pub fn is_over(&self) -> bool {
+        self.is_over
+    }
+
+    /// The program has closed it, or is asked nothing of it: it gets what waits for it.
+    pub fn close(&mut self) {
+        self.is_over = true;
+        self.hears = false;
+    }
+
+    /// The program that knew it is gone.
+    pub fn forget(&mut self) {
+        self.number = None;
+        self.close();
+    }
+
+    /// It isn't heard until the program takes more.
+    pub fn pause(&mut self) {
+        self.is_paused = true;
+    }
+
+    pub fn go_on(&mut self) {
+        self.is_paused = false;
+    }
+
+    /// Whether there is more to be heard than its socket tells, which wasn't known before.
+    pub fn becomes_ready(&mut self) -> bool {
+        let is_new = !self.is_ready && self.is_read() && self.wire.has_more();
+        self.is_ready |= is_new;
+        is_new
+    }
+
+    /// It is heard now.
+    pub fn is_looked_at(&mut self) {
+        self.is_ready = false;
+    }
+
+    /// What is waited for of its socket, where that was something else before.
+    pub fn newly_wanted(&mut self) -> Option<u32> {
+        let wanted = self.wanted();
+        let before = std::mem::replace(&mut self.armed, wanted);
+        Some(wanted).filter(|it| *it != before)
+    }
+
+    /// The program waits for it, if it has taken all: so many bytes. Whether that is so.
+    pub fn waits(&mut self, turn: Turn, bytes: u64, now: u64) -> bool {
+        let is_all = self.sent == bytes;
+        if is_all {
+            self.times.waits(turn, now);
+        }
+        is_all
     }
 
     pub fn waits_for_nothing(&self) -> bool {
@@ -125,6 +238,12 @@ impl Client {
             Err(error) if is_passing(&error) => Ok(Sent::Nothing),
             Err(error) => Err(error),
         }
+    }
+
+    /// Its end has come, and the program is told so.
+    pub fn end_itself(&mut self, to: &mut ToProgram) {
+        self.has_ended = true;
+        self.end(to);
     }
 
     /// Nothing more is heard of it, and the program is told so.
@@ -221,7 +340,7 @@ impl Client {
     }
 
     /// What is waited for of its socket.
-    pub fn wanted(&self) -> u32 {
+    fn wanted(&self) -> u32 {
         let reads = match self.wire.wants() {
             _ if !self.is_read() => 0,
             0 => IN,

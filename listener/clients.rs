@@ -5,7 +5,7 @@ use crate::openssl::Contexts;
 use crate::places::{Place, Places};
 use crate::poll::Poll;
 use crate::program::{FromProgram, ToProgram, Told};
-use crate::proxied::{Header, Proxies, Told as Introduced};
+use crate::proxied::{Proxies, Told as Introduced};
 use crate::refusals::Refusals;
 use crate::system::{self, ERROR, HANG_UP, IN, OUT};
 use crate::times::{Late, Limits, Turn};
@@ -28,7 +28,7 @@ const UNSENT: i32 = 128 * 1024;
 pub struct Clients {
     pub poll: Poll,
     pub to: ToProgram,
-    pub limits: Limits,
+    limits: Limits,
     /// How many there may be.
     most: usize,
     places: Places,
@@ -41,13 +41,13 @@ pub struct Clients {
     /// Who is heard again in the next turn, though no socket tells of it; and how many steps of handshakes are still made in this one.
     ready: Vec<u64>,
     shakes: usize,
-    pub refusals: Refusals,
+    refusals: Refusals,
     next_key: u64,
     is_stopping: bool,
     /// Whether the program has asked for more.
-    pub is_asked: bool,
+    is_asked: bool,
     /// By the clock of the listener, in milliseconds.
-    pub now: u64,
+    now: u64,
 }
 
 impl Clients {
@@ -71,6 +71,24 @@ impl Clients {
             is_asked: false,
             now: 0,
         }
+    }
+
+    pub fn now(&self) -> u64 {
+        self.now
+    }
+
+    pub fn set_now(&mut self, now: u64) {
+        self.now = now;
+    }
+
+    /// Whether the program has asked for more.
+    pub fn is_asked(&self) -> bool {
+        self.is_asked
+    }
+
+    /// Whether refusals are still to be told.
+    pub fn has_refusals(&self) -> bool {
+        !self.refusals.is_empty()
     }
 
     pub fn is_empty(&self) -> bool {
@@ -102,46 +120,34 @@ impl Clients {
         }
         self.next_key += 1;
         self.places.enter(place);
-        let mut client = Client::new(socket, contexts, address, self.window, self.now);
-        client.armed = IN;
-        client.place = place;
-        client.header = Some(Box::<Header>::default()).filter(|_| is_proxy);
-        self.by_key.insert(key, client);
+        let client = Client::new(socket, contexts, address, self.window, self.now);
+        self.by_key.insert(key, client.placed(place, is_proxy));
     }
 
-    /// Reads what has come of a header; whether that has told of its client.
+    /// Reads what a proxy tells of a client; whether that is whole.
     fn is_introduced(&mut self, key: u64) -> bool {
-        let (header, wire, proxy) = match self.by_key.get_mut(&key) {
-            Some(Client { header: Some(header), wire, address, .. }) => (header, wire, *address),
-            _ => return false,
+        let client = match self.by_key.get_mut(&key) {
+            Some(client) => client,
+            None => return false,
         };
-        match header.read(&mut wire.socket) {
+        match client.read_header() {
             Ok(None) => return false,
             Ok(Some(told)) => {
                 let address = if let Introduced::Client(address) = told { address } else { None };
                 let place = address.map(Place::of);
                 if !self.places.is_full(place) {
-                    self.introduce(key, told, place);
+                    client.introduce(told, place);
+                    self.places.enter(place);
                     return true;
                 }
                 self.refusals.note(address, CROWDED, self.now);
             }
             // A proxy that only looks whether someone is there.
-            Err(_) if header.is_empty() => {}
-            Err(error) => self.refusals.note(proxy, &format!("a proxy: {} (--proxy-protocol)", error), self.now),
+            Err(_) if client.has_no_header() => {}
+            Err(error) => self.refusals.note(client.address(), &format!("a proxy: {} (--proxy-protocol)", error), self.now),
         }
         self.lose(key);
         false
-    }
-
-    fn introduce(&mut self, key: u64, told: Introduced, place: Option<Place>) {
-        if let Some(client) = self.by_key.get_mut(&key) {
-            client.header = None;
-            if let Introduced::Client(address) = told {
-                (client.address, client.place) = (address, place);
-                self.places.enter(place);
-            }
-        }
     }
 
     /// Closes one to let another in. Whether there was one.
@@ -164,12 +170,12 @@ impl Clients {
         }
         let lagging = self.by_key.iter().filter_map(|(key, client)| {
             let time = client.lags(&self.limits, self.now)?;
-            let is_of_crowd = self.places.is_crowd(client.place);
-            let is_known = client.is_known || self.places.is_known(client.place);
+            let is_of_crowd = self.places.is_crowd(client.place());
+            let is_known = client.is_known() || self.places.is_known(client.place());
             Some((is_of_crowd, time, *key)).filter(|_| is_of_crowd || !is_known)
         });
         let (_, _, key) = lagging.max()?;
-        let address = self.by_key.get(&key).and_then(|client| client.address);
+        let address = self.by_key.get(&key).and_then(Client::address);
         self.refusals.note(address, "all places were taken, and it owed a request and sent little", self.now);
         Some(key)
     }
@@ -177,15 +183,15 @@ impl Clients {
     fn close(&mut self, key: u64) {
         if let Some(mut client) = self.by_key.remove(&key) {
             let _ = client.wire.say_end();
-            client.number.map(|number| self.by_number.remove(&number));
-            self.places.leave(client.place);
+            client.number().map(|number| self.by_number.remove(&number));
+            self.places.leave(client.place());
         }
     }
 
     /// It is gone, or is sent away.
     fn lose(&mut self, key: u64) {
         if let Some(client) = self.by_key.get(&key) {
-            if let (Some(number), false) = (client.number, client.is_over) {
+            if let (Some(number), false) = (client.number(), client.is_over()) {
                 self.to.say(&frames::gone(number));
             }
             self.close(key);
@@ -195,7 +201,7 @@ impl Clients {
     /// Nothing more is heard of it: it is closed once what it asked for is answered.
     fn end(&mut self, key: u64) {
         match self.by_key.get_mut(&key) {
-            Some(client) if client.number.is_some() => client.end(&mut self.to),
+            Some(client) if client.number().is_some() => client.end(&mut self.to),
             _ => return self.lose(key),
         }
         self.arm(key);
@@ -207,10 +213,8 @@ impl Clients {
         self.by_number.clear();
         let keys: Vec<_> = self.by_key.keys().copied().collect();
         for key in keys {
-            if let Some(client) = self.by_key.get_mut(&key).filter(|client| client.number.is_some()) {
-                client.number = None;
-                client.is_over = true;
-                client.hears = false;
+            if let Some(client) = self.by_key.get_mut(&key).filter(|client| client.number().is_some()) {
+                client.forget();
                 self.settle(key);
             }
         }
@@ -242,7 +246,7 @@ impl Clients {
     pub fn hear_ready(&mut self) {
         for key in std::mem::take(&mut self.ready) {
             if let Some(client) = self.by_key.get_mut(&key) {
-                client.is_ready = false;
+                client.is_looked_at();
                 self.hear(key, false);
             }
         }
@@ -250,7 +254,7 @@ impl Clients {
 
     fn hear(&mut self, key: u64, has_hung_up: bool) {
         let client = match self.by_key.get_mut(&key) {
-            Some(client) if client.header.is_none() => client,
+            Some(client) if !client.is_proxied() => client,
             Some(_) => {
                 return if self.is_introduced(key) {
                     self.hear(key, has_hung_up)
@@ -260,8 +264,8 @@ impl Clients {
         };
         if client.wire.is_shaking() && !client.lingers() {
             if client.wire.refuses_http() {
-                self.refusals.note(client.address, "it speaks HTTP without TLS", self.now);
-                client.is_over = true;
+                self.refusals.note(client.address(), "it speaks HTTP without TLS", self.now);
+                client.close();
                 return self.settle(key);
             }
             if self.shakes == 0 {
@@ -277,21 +281,20 @@ impl Clients {
             return;
         }
         if client.is_read() && self.to.is_full() {
-            client.is_paused = true;
+            client.pause();
             self.paused.push(key);
         }
-        let is_known = client.number.is_some();
+        let has_begun = client.number().is_some();
         let sent = if client.is_read() { client.hear(&mut self.to, self.now) } else { Ok(Sent::Nothing) };
-        match (sent, client.number) {
+        match (sent, client.number()) {
             (Ok(Sent::End), Some(_)) if !has_hung_up => {
-                client.has_ended = true;
-                client.end(&mut self.to);
+                client.end_itself(&mut self.to);
             }
-            (Ok(Sent::Bytes), Some(number)) if !is_known => drop(self.by_number.insert(number, key)),
+            (Ok(Sent::Bytes), Some(number)) if !has_begun => drop(self.by_number.insert(number, key)),
             (Ok(Sent::Bytes), _) => {}
             (Ok(Sent::Nothing), _) if !has_hung_up => {}
             (Err(error), None) if !client.wire.is_plain() => {
-                self.refusals.note(client.address, &format!("TLS: {}", error), self.now);
+                self.refusals.note(client.address(), &format!("TLS: {}", error), self.now);
                 return self.lose(key);
             }
             _ => return self.lose(key),
@@ -312,7 +315,7 @@ impl Clients {
     /// Once all was sent to a connection that is over, it is finished.
     fn settle(&mut self, key: u64) {
         if let Some(client) = self.by_key.get_mut(&key) {
-            if client.is_over && !client.lingers() && client.has_all() && client.finish(self.now) {
+            if client.is_over() && !client.lingers() && client.has_all() && client.finish(self.now) {
                 return self.close(key);
             }
             self.arm(key);
@@ -321,13 +324,10 @@ impl Clients {
 
     fn arm(&mut self, key: u64) {
         if let Some(client) = self.by_key.get_mut(&key) {
-            if client.is_read() && client.wire.has_more() && !client.is_ready {
-                client.is_ready = true;
+            if client.becomes_ready() {
                 self.ready.push(key);
             }
-            let wanted = client.wanted();
-            if wanted != client.armed {
-                client.armed = wanted;
+            if let Some(wanted) = client.newly_wanted() {
                 if self.poll.change(client.wire.socket.as_raw_fd(), wanted, key).is_err() {
                     self.lose(key);
                 }
@@ -389,8 +389,7 @@ impl Clients {
     fn over(&mut self, number: u64) {
         if let Some(key) = self.by_number.remove(&number) {
             if let Some(client) = self.by_key.get_mut(&key) {
-                client.is_over = true;
-                client.hears = false;
+                client.close();
             }
             self.settle(key);
         }
@@ -400,19 +399,18 @@ impl Clients {
     fn know(&mut self, number: u64) {
         let key = self.by_number.get(&number);
         if let Some(client) = key.and_then(|key| self.by_key.get_mut(key)) {
-            client.is_known = true;
-            client.place.into_iter().for_each(|place| self.places.know(place));
+            client.know();
+            client.place().into_iter().for_each(|place| self.places.know(place));
         }
     }
 
     /// What the program says is true only where it has taken all that was sent.
     fn waits(&mut self, number: u64, turn: Turn, bytes: u64) {
         if let Some(key) = self.by_number.get(&number).copied() {
-            if let Some(client) = self.by_key.get_mut(&key).filter(|client| client.sent == bytes) {
-                client.times.waits(turn, self.now);
-                if self.is_stopping && client.is_at_rest() {
-                    self.end(key);
-                }
+            let now = self.now;
+            let found = self.by_key.get_mut(&key);
+            if found.map_or(false, |client| client.waits(turn, bytes, now) && self.is_stopping && client.is_at_rest()) {
+                self.end(key);
             }
         }
     }
@@ -428,7 +426,7 @@ impl Clients {
         self.to.write_out()?;
         if self.to.has_room() {
             for key in std::mem::take(&mut self.paused) {
-                self.by_key.get_mut(&key).into_iter().for_each(|client| client.is_paused = false);
+                self.by_key.get_mut(&key).into_iter().for_each(Client::go_on);
                 self.arm(key);
             }
         }

@@ -124,7 +124,7 @@ impl Server {
     pub fn begin(&mut self, pipes: Pipes) -> io::Result<()> {
         self.clients.poll.add(pipes.to.as_raw_fd(), 0, TO_PROGRAM)?;
         self.clients.poll.add(pipes.from.as_raw_fd(), IN, FROM_PROGRAM)?;
-        self.clients.to.file = Some(pipes.to);
+        self.clients.to.begin(pipes.to);
         self.from = Some(FromProgram::new(pipes.from));
         Ok(())
     }
@@ -137,8 +137,8 @@ impl Server {
         self.clients.begin_again();
         self.is_writing = false;
         self.tell_users();
-        self.clients.now = self.began.elapsed().as_millis() as u64;
-        self.due = self.clients.now + milliseconds;
+        self.clients.set_now(self.began.elapsed().as_millis() as u64);
+        self.due = self.clients.now() + milliseconds;
     }
 
     /// For how many milliseconds the program has served; none where it wasn't ready.
@@ -179,16 +179,16 @@ impl Server {
 
     fn turn(&mut self, events: &mut [Event]) -> Result<(), End> {
         // Where the program asks for more, all that has come by now is looked at first.
-        let is_asked = self.clients.is_asked;
+        let is_asked = self.clients.is_asked();
         let next = if self.from.is_none() { self.ticks.min(self.due) } else { self.ticks };
         let hears = self.clients.begin_turn();
         let time = match is_asked || hears {
             true => 0,
-            false if self.is_idle() => self.certificates.as_ref().map_or(-1, |it| it.due().saturating_sub(self.clients.now) as i32),
-            false => next.saturating_sub(self.clients.now) as i32,
+            false if self.is_idle() => self.certificates.as_ref().map_or(-1, |it| it.due().saturating_sub(self.clients.now()) as i32),
+            false => next.saturating_sub(self.clients.now()) as i32,
         };
         let count = self.clients.poll.wait(events, time).map_err(|error| End::Failed("waiting", error))?;
-        self.clients.now = self.began.elapsed().as_millis() as u64;
+        self.clients.set_now(self.began.elapsed().as_millis() as u64);
         for event in &events[..count] {
             self.handle(event.key, event.events)?;
         }
@@ -203,26 +203,26 @@ impl Server {
         }
         self.tell_moment(count);
         self.write_out()?;
-        if self.clients.now >= self.ticks {
-            self.ticks = self.clients.now + TICK;
+        if self.clients.now() >= self.ticks {
+            self.ticks = self.clients.now() + TICK;
             self.clients.look_at_times();
             self.write_out()?;
         }
-        let now = self.clients.now;
+        let now = self.clients.now();
         self.certificates.iter_mut().for_each(|it| it.look(now));
-        if !self.listens && self.stops.is_none() && self.clients.now >= self.listens_again {
+        if !self.listens && self.stops.is_none() && self.clients.now() >= self.listens_again {
             self.listen(true)?;
         }
         match self.stops {
-            Some(stops) if self.clients.is_empty() || self.clients.now >= stops => Err(End::Stopped),
-            None if self.from.is_none() && self.clients.now >= self.due => Err(End::Due),
+            Some(stops) if self.clients.is_empty() || self.clients.now() >= stops => Err(End::Stopped),
+            None if self.from.is_none() && self.clients.now() >= self.due => Err(End::Due),
             _ => Ok(()),
         }
     }
 
     /// Whether nothing has a time.
     fn is_idle(&self) -> bool {
-        let is_told = self.clients.is_empty() && self.clients.refusals.is_empty();
+        let is_told = self.clients.is_empty() && !self.clients.has_refusals();
         is_told && self.listens && self.stops.is_none() && self.keeps.is_none() && self.from.is_some()
     }
 
@@ -242,7 +242,7 @@ impl Server {
 
     fn write_out(&mut self) -> Result<(), End> {
         let is_left = self.clients.write_out().map_err(|error| End::Failed("writing to the program", error))?;
-        match &self.clients.to.file {
+        match self.clients.to.file() {
             Some(file) if is_left != self.is_writing => {
                 self.is_writing = is_left;
                 let events = if is_left { OUT } else { 0 };
@@ -287,7 +287,7 @@ impl Server {
 
     /// The program serves from now on. Whoever started this is told so the first time.
     fn go_on_ready(&mut self) {
-        self.ready = Some(self.clients.now);
+        self.ready = Some(self.clients.now());
         if let (Some(telling), None) = (self.telling.take(), self.stops) {
             telling.tell();
         }
@@ -299,7 +299,7 @@ impl Server {
         for count in 0..AT_ONCE {
             if self.clients.is_full() && (count > 0 || !self.clients.evict()) {
                 // Whoever waits is let in once another goes.
-                self.listens_again = self.clients.now + if count > 0 { 0 } else { TICK / 10 };
+                self.listens_again = self.clients.now() + if count > 0 { 0 } else { TICK / 10 };
                 return if count > 0 { Ok(()) } else { self.listen(false) };
             }
             let listener = self.listeners.get(at);
@@ -312,7 +312,7 @@ impl Server {
                 Some(Err(error)) if error.kind() == ErrorKind::WouldBlock => return Ok(()),
                 Some(Err(error)) if is_want(&error) => {
                     say(format_args!("nobody is let in for a second: {}", error));
-                    self.listens_again = self.clients.now + PAUSE;
+                    self.listens_again = self.clients.now() + PAUSE;
                     return self.listen(false);
                 }
                 // It has gone again.
@@ -338,9 +338,9 @@ impl Server {
     /// Tells the program the moment a second behind what came for it, where that is what it waits for.
     fn tell_moment(&mut self, count: usize) {
         if self.keeps_late && count > 0 && self.keeps.is_none() {
-            self.keeps = Some(self.clients.now + KEEPS);
+            self.keeps = Some(self.clients.now() + KEEPS);
         }
-        if self.keeps.map_or(false, |at| self.clients.now >= at) && self.clients.to.has_room() {
+        if self.keeps.map_or(false, |at| self.clients.now() >= at) && self.clients.to.has_room() {
             let since = SystemTime::now().duration_since(UNIX_EPOCH).unwrap_or_default();
             self.clients.to.say(&frames::clock(since.as_nanos() as u64));
             self.keeps = None;
@@ -370,7 +370,7 @@ impl Server {
                 // Who has handed it over may still have it, and then the poll would go on telling of it.
                 let _ = self.clients.poll.remove(listener.file());
             }
-            self.stops = Some(self.clients.now + self.grace);
+            self.stops = Some(self.clients.now() + self.grace);
             self.clients.stop();
         }
         Ok(())

@@ -1,5 +1,6 @@
 """Clients that take all places and hold them, and who goes for whom, for tests/listener. A proxy tells any address of theirs."""
 import contextlib
+import resource
 import socket
 import time
 
@@ -64,6 +65,9 @@ def words_for(count, of_one):
 
 def floods(listen, is_whole):
     count = 1000 if is_whole else 100
+    if is_whole:
+        # So many files are its own, too.
+        resource.setrlimit(resource.RLIMIT_NOFILE, (resource.getrlimit(resource.RLIMIT_NOFILE)[1],) * 2)
     for kind in KINDS:
         for addresses in (2, 9, count):
             with listening(listen, words_for(count, count // 2)) as it:

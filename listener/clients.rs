@@ -252,28 +252,37 @@ impl Clients {
         }
     }
 
-    fn hear(&mut self, key: u64, has_hung_up: bool) {
+    /// Whether it may be heard: its proxy has told of it, and its handshake is done, or may go on in this turn.
+    fn is_let_through(&mut self, key: u64) -> bool {
+        let is_proxied = self.by_key.get(&key).map_or(false, Client::is_proxied);
+        if is_proxied && !self.is_introduced(key) {
+            return false;
+        }
         let client = match self.by_key.get_mut(&key) {
-            Some(client) if !client.is_proxied() => client,
-            Some(_) => {
-                return if self.is_introduced(key) {
-                    self.hear(key, has_hung_up)
-                }
-            }
+            Some(client) if client.wire.is_shaking() && !client.lingers() => client,
+            found => return found.is_some(),
+        };
+        if client.wire.refuses_http() {
+            self.refusals.note(client.address(), "it speaks HTTP without TLS", self.now);
+            client.close();
+            self.settle(key);
+            return false;
+        }
+        // Where none is left the poll tells of it again.
+        let may_shake = self.shakes > 0;
+        self.shakes -= usize::from(may_shake);
+        may_shake
+    }
+
+    fn hear(&mut self, key: u64, has_hung_up: bool) {
+        let client = match self.is_let_through(key) {
+            true => self.by_key.get_mut(&key),
+            false => None,
+        };
+        let client = match client {
+            Some(client) => client,
             None => return,
         };
-        if client.wire.is_shaking() && !client.lingers() {
-            if client.wire.refuses_http() {
-                self.refusals.note(client.address(), "it speaks HTTP without TLS", self.now);
-                client.close();
-                return self.settle(key);
-            }
-            if self.shakes == 0 {
-                // The poll tells of it again.
-                return;
-            }
-            self.shakes -= 1;
-        }
         if client.lingers() {
             if client.drain() || has_hung_up {
                 self.close(key);

@@ -180,13 +180,8 @@ impl Server {
     fn turn(&mut self, events: &mut [Event]) -> Result<(), End> {
         // Where the program asks for more, all that has come by now is looked at first.
         let is_asked = self.clients.is_asked();
-        let next = if self.from.is_none() { self.ticks.min(self.due) } else { self.ticks };
         let hears = self.clients.begin_turn();
-        let time = match is_asked || hears {
-            true => 0,
-            false if self.is_idle() => self.certificates.as_ref().map_or(-1, |it| it.due().saturating_sub(self.clients.now()) as i32),
-            false => next.saturating_sub(self.clients.now()) as i32,
-        };
+        let time = if is_asked || hears { 0 } else { self.time_to_wait() };
         let count = self.clients.poll.wait(events, time).map_err(|error| End::Failed("waiting", error))?;
         self.clients.set_now(self.began.elapsed().as_millis() as u64);
         for event in &events[..count] {
@@ -220,10 +215,24 @@ impl Server {
         }
     }
 
+    /// For how many milliseconds nothing has to be done; less than none where that is without end.
+    fn time_to_wait(&self) -> i32 {
+        let next = match self.from {
+            Some(_) if self.is_idle() => return self.certificates.as_ref().map_or(-1, |it| self.until(it.due())),
+            Some(_) => self.ticks,
+            None => self.ticks.min(self.due),
+        };
+        self.until(next)
+    }
+
+    fn until(&self, moment: u64) -> i32 {
+        moment.saturating_sub(self.clients.now()) as i32
+    }
+
     /// Whether nothing has a time.
     fn is_idle(&self) -> bool {
         let is_told = self.clients.is_empty() && !self.clients.has_refusals();
-        is_told && self.listens && self.stops.is_none() && self.keeps.is_none() && self.from.is_some()
+        is_told && self.listens && self.stops.is_none() && self.keeps.is_none()
     }
 
     fn handle(&mut self, key: u64, events: u32) -> Result<(), End> {

@@ -16,6 +16,7 @@ ANN, BEN = b"X-User: ann\r\n", b"X-User: ben\r\n"
 
 
 def rows(stores, davserve):
+    """What a wrong clock did to a store, what settles it, and what stands there then."""
     def ask(moment, *requests):
         """What is answered to these."""
         given = b"clock %d\n" % moment + frame(1, b"".join(requests)) + frame(1)

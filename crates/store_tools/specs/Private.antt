@@ -1,0 +1,2 @@
+pub mod ExportWork
+pub mod Recorded

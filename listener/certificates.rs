@@ -112,14 +112,18 @@ fn new_keys() -> io::Result<[u8; TICKET_KEYS]> {
 }
 
 fn read(library: &'static Library, pairs: &[(PathBuf, PathBuf)], keys: &mut [u8; TICKET_KEYS]) -> Result<Rc<Contexts>, Fault> {
-    for path in pairs.iter().flat_map(|(certificate, key)| [certificate, key]) {
-        // The library would wait for a pipe.
-        let about = path.metadata().map_err(|error| Fault::tls(format_args!("{}: {}", path.display(), error)))?;
-        if !about.is_file() || about.len() > LARGEST {
-            return Err(Fault::tls(format_args!("{} is no file of {} bytes at most", path.display(), LARGEST)));
-        }
-    }
+    pairs.iter().flat_map(|(certificate, key)| [certificate, key]).try_for_each(|path| look_at(path))?;
     Contexts::read(library, pairs, keys)
+}
+
+/// Whether the library can read a file: it would wait for a pipe, and doesn't say why a file can't be opened.
+fn look_at(path: &Path) -> Result<(), Fault> {
+    let fault = |error| Fault::tls(format_args!("{}: {}", path.display(), error));
+    let about = path.metadata().map_err(fault)?;
+    if !about.is_file() || about.len() > LARGEST {
+        return Err(Fault::tls(format_args!("{} is no file of {} bytes at most", path.display(), LARGEST)));
+    }
+    File::open(path).map(drop).map_err(fault)
 }
 
 #[cfg(test)]

@@ -21,8 +21,10 @@ KINDS = ("polite", "reset", "leaving", "silent", "slow", "greedy")
 class Clients:
     """Random clients, one behind another in so many places. What a client gets back is a front of what it has sent; and all of it, where it ends as it should."""
 
-    def __init__(self, seed, port, count):
+    def __init__(self, seed, port, count, context=None):
         self.random, self.port, self.left = random.Random(seed), port, count
+        # With a context they speak TLS.
+        self.secured = {"ssl": context, "server_hostname": "localhost"} if context else {}
         self.counts = collections.Counter()
 
     async def play(self):
@@ -40,15 +42,14 @@ class Clients:
             await asyncio.wait_for(self.one(kind), PATIENCE)
 
     async def one(self, kind):
-        reader, writer = await asyncio.open_connection("127.0.0.1", self.port, limit=1 << 16)
+        reader, writer = await asyncio.open_connection("127.0.0.1", self.port, limit=1 << 16, **self.secured)
         sent, got = bytearray(), bytearray()
         taker = None if kind == "greedy" else asyncio.ensure_future(self.take(kind, reader, got))
         with contextlib.suppress(OSError):
             if kind != "silent":
                 await self.send(kind, writer, sent)
             if kind in ("polite", "slow", "silent"):
-                writer.write_eof()
-                await taker
+                await self.end(writer, taker, sent, got)
         if kind in ("reset", "greedy"):
             writer.get_extra_info("socket").setsockopt(socket.SOL_SOCKET, socket.SO_LINGER, struct.pack("ii", 1, 0))
         writer.transport.abort()
@@ -57,6 +58,14 @@ class Clients:
         self.counts["wrong"] += got != sent[: len(got)] or (kind in ("polite", "slow") and got != sent)
         self.counts["bytes"] += len(got)
         self.counts[kind] += 1
+
+    async def end(self, writer, taker, sent, got):
+        """Takes all that it has sent. In TLS no end can be said before that."""
+        if not self.secured:
+            writer.write_eof()
+            await taker
+        while len(got) < len(sent) and not taker.done():
+            await asyncio.sleep(0.001)
 
     async def take(self, kind, reader, got):
         with contextlib.suppress(OSError):

@@ -146,11 +146,15 @@ async def watched(it, clients, seconds):
 
 
 def random_load(listen, is_whole):
-    seconds = 600 if is_whole else 6
+    return loaded(listen, 600 if is_whole else 6)
+
+
+def loaded(listen, seconds, words=(), context=None):
+    """Random clients for so long, by TLS where they have a context."""
     limits = [word for name in ("idle", "head", "stall") for word in (f"--{name}", "600")]
-    with listening(listen, limits, mode="echo") as it:
+    with listening(listen, [*limits, *words], mode="echo") as it:
         before = it.files()
-        clients = Clients(3, it.port, 1 << 60)
+        clients = Clients(3, it.port, 1 << 60, context)
         counts, seen = asyncio.run(watched(it, clients, seconds))
         first, last = max(seen[: len(seen) // 2]), max(seen[len(seen) // 2 :])
         yield f"random load for {seconds} s: of {clients.played()} clients {counts['wrong']} are answered wrongly, {counts['bytes'] / 1e6:.0f} MB come back", counts["wrong"] == 0 and clients.played() > AT_ONCE

@@ -21,8 +21,12 @@ class Passing(NamedTuple):
     words: object
 
 
+# Root alone can become another user: for whoever else runs haproxy its configuration names none.
+NO_USER = [] if os.geteuid() == 0 else [(r"(?m)^    (user haproxy|group www-data)$", "")]
+
+
 def of_haproxy(front):
-    return [(r":443,\[::\]:443", f"127.0.0.1:{front.port}")]
+    return [(r":443,\[::\]:443", f"127.0.0.1:{front.port}"), *NO_USER]
 
 
 def behind_haproxy(front):

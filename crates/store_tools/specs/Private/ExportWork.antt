@@ -34,10 +34,6 @@ ExportsOne s w w' = (part : ExportPart) × (part.entry ≡ s) × AddsParts w w' 
 abbrev pub ExportsEach : List Stored → Work → Work → Type 0
 ExportsEach ss w w' = (parts : List ExportPart) × (map (λ p. p.entry) parts ≡ ss) × AddsParts w w' parts
 
--- it was left out, and nothing has changed
-abbrev pub LeavesOut : Work → Work → Type 0
-LeavesOut w w' = (w'.folders ≡ w.folders) × (w'.whole ≡ w.whole) × (w'.done ≡ w.done)
-
 -- it was made
 abbrev pub MakesEntry : Stored → Work → Work → Type 0
 MakesEntry s w w' = (at : List ℕ × ℕ) × AddsParts w w' (record { entry = s; made = Some at } ∷ [])

@@ -21,7 +21,7 @@ const SETS_TIME: u8 = 4;
 
 const SYNCS: u8 = 5;
 
-/// What an export asks of the system, at places of it. The place of a call that writes, sets a time or syncs is that of what was made or opened last.
+/// What an export asks of the system, at places of it. A call that writes, sets a time or syncs is at the place of the file that was made, or of the folder that was opened, last.
 pub(crate) trait Calls<'a> {
     /// Each call so far, in order, and whether it was done.
     ghost history: { Self → List (SystemCall × Bool) };
@@ -64,7 +64,7 @@ pub(crate) struct Call<'a> {
 #[derive(Drop)]
 pub(crate) struct Host<'a> {
     rt: &'a HostRuntime,
-    // What was made or opened last.
+    // The file that was made, or the folder that was opened, last; none behind a folder that was made.
     open: Option<File>,
     log: Log<String, Call<'a>>,
 }
@@ -127,7 +127,6 @@ fn write_all(open: &mut Option<File>, bytes: &[u8]) -> io::Result<()> {
 
 // Keeps what is open now, where it could be opened.
 fn keep(open: &mut Option<File>, answer: io::Result<File>) -> io::Result<()> {
-    *open = None;
     *open = Some(answer?);
     Ok(())
 }
@@ -148,18 +147,21 @@ impl<'a> Calls<'a> for Host<'a> {
     ghost history = { host_history };
 
     fn make_folder(&mut self, place: &String) -> io::Result<()> {
+        self.open = None;
         let answer = fs::create_dir(self.rt, place.as_str());
         self.note_plain(place, MAKES_FOLDER, answer.is_ok());
         answer
     }
 
     fn make_file(&mut self, place: &String) -> io::Result<()> {
+        self.open = None;
         let answer = keep(&mut self.open, create(self.rt, place.as_str()));
         self.note_plain(place, MAKES_FILE, answer.is_ok());
         answer
     }
 
     fn open_folder(&mut self, place: &String) -> io::Result<()> {
+        self.open = None;
         let answer = keep(&mut self.open, File::open(self.rt, place.as_str()));
         self.note_plain(place, OPENS, answer.is_ok());
         answer

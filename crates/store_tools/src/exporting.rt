@@ -376,7 +376,7 @@ fn made_at(alloc: Global, place: &str, made: io::Result<()>) -> Result<(), Unmad
     }
 }
 
-// What a call at this place answers; its error is no word on a name.
+// What a call at this place answers. Any error ends the export.
 fn done_at(alloc: Global, place: &str, answer: io::Result<()>) -> Result<(), Failure>
     ensures done { OnOk result (IsTrue (is_ok answer)) }
 {

@@ -60,12 +60,14 @@ class Clients:
         self.counts[kind] += 1
 
     async def end(self, writer, taker, sent, got):
-        """Takes all that it has sent. In TLS no end can be said before that."""
+        """Takes all that comes back. asyncio can't end one direction of TLS, so there it waits until that is as much as it has sent, and a little longer for more; one that is silent stays as long."""
         if not self.secured:
             writer.write_eof()
             await taker
+            return
         while len(got) < len(sent) and not taker.done():
             await asyncio.sleep(0.001)
+        await asyncio.sleep(0.005)
 
     async def take(self, kind, reader, got):
         with contextlib.suppress(OSError):

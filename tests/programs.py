@@ -104,6 +104,22 @@ def does_apt_get(*words):
     return subprocess.run(command, stdin=subprocess.DEVNULL, stdout=subprocess.DEVNULL, stderr=subprocess.DEVNULL, timeout=300, check=False).returncode == 0
 
 
+# What a folder has that a test has put a Debian into.
+MARK = "etc/made-by-tests"
+
+
+def own_root(test, root, packages=""):
+    """Puts a Debian with these packages into a folder that isn't there. One that a test has made stays as it is, and any other is refused."""
+    mark = os.path.join(root, MARK)
+    if os.path.exists(mark):
+        return
+    if os.path.exists(root):
+        stop(f"{test}: {root} is there, and no test has made it")
+    subprocess.run(["debootstrap", "--variant=minbase", *([f"--include={packages}"] if packages else []), "bookworm", root], stdout=subprocess.DEVNULL, check=True)
+    with open(mark, "w", encoding="ascii") as file:
+        file.write(f"{test}\n")
+
+
 def memory_of(pid, kind="VmHWM"):
     """The memory of a process that runs, in kilobytes: the most that it had, or by `VmRSS` what it has."""
     with open(f"/proc/{pid}/status", encoding="ascii") as status:

@@ -4,9 +4,11 @@ use Rattle.std.proofs.lemmas.Bool.{false≢true, true≢false}
 use Rattle.dav_files_core.specs.Resources.{is_folder}
 use Rattle.dav_files_core.specs.Walks.{Stored}
 use Rattle.std.specs.List.{flat_map}
+use Rattle.std.proofs.Math.Bool.{and-false, and-true, and_assoc}
 use Rattle.std.proofs.lemmas.Grind.{flat_map-append}
+use Rattle.std.proofs.lemmas.List.Folds.{list_all-append}
 use Rattle.std.proofs.lemmas.List.{map-append}
-use Rattle.store_tools.specs.Exports.{SystemCall, ExportPart, folders, makes, are_made, calls_done, file_calls, folder_of, folder_calls, is_made, makes_folder, calls_of}
+use Rattle.store_tools.specs.Exports.{SystemCall, ExportPart, folders, makes, are_made, calls_done, file_calls, folder_of, folder_calls, makes_folder, calls_of}
 use Rattle.store_tools.specs.Private.ExportWork.{ExportsEach, ExportsOne, MakesEntry, Work, is_left_out}
 use Rattle.store_tools.specs.declared.exporting.Unmade.{Unmade}
 
@@ -77,19 +79,15 @@ member_made r None place l l' is made = absurd (false≢true is)
 
 -- ---- an entry
 
-and_true : (b : Bool) → b ≡ (b && true)
-and_true true = refl
-and_true false = refl
-
 pub file_made : (s : Stored) (w w' : Work) (place bytes : List ℕ) (time : ℕ) → is_folder s.resource.node.kind ≡ false → bytes ≡ s.resource.node.bytes → w'.folders ≡ w.folders → w'.whole ≡ w.whole
     → w'.done ≡ w.done ++ file_calls place bytes time → MakesEntry s w w'
-unfolding calls_of folder_of are_made is_made
+unfolding calls_of folder_of
 file_made s w w' place bytes time file same stay whole did =
     let at : List ℕ × ℕ = (place, time) in (
       at,
       (
         subst (λ (b : Bool). w'.folders ≡ w.folders ++ ((if b then at ∷ [] else []) ++ [])) (sym file) (stay ∙ sym (append-nil w.folders)),
-        whole ∙ and_true w.whole,
+        whole ∙ sym (and-true w.whole),
         subst (λ (b : Bool). w'.done ≡ w.done ++ ((if b then folder_calls s.folder place else file_calls place s.resource.node.bytes time) ++ [])) (sym file)
             (subst (λ (l : List ℕ). w'.done ≡ w.done ++ file_calls place l time) same did),
       ),
@@ -97,13 +95,13 @@ file_made s w w' place bytes time file same stay whole did =
 
 pub folder_made : (s : Stored) (w w' : Work) (place : List ℕ) (time : ℕ) → is_folder s.resource.node.kind ≡ true → w'.folders ≡ w.folders ++ (place, time) ∷ [] → w'.whole ≡ w.whole
     → w'.done ≡ w.done ++ folder_calls s.folder place → MakesEntry s w w'
-unfolding calls_of folder_of are_made is_made
+unfolding calls_of folder_of
 folder_made s w w' place time folder more whole did =
     let at : List ℕ × ℕ = (place, time) in (
       at,
       (
         subst (λ (b : Bool). w'.folders ≡ w.folders ++ ((if b then at ∷ [] else []) ++ [])) (sym folder) more,
-        whole ∙ and_true w.whole,
+        whole ∙ sym (and-true w.whole),
         subst (λ (b : Bool). w'.done ≡ w.done ++ ((if b then folder_calls s.folder place else file_calls place s.resource.node.bytes time) ++ [])) (sym folder)
             (did ∙ ap (λ (l : List SystemCall). w.done ++ l) (sym (append-nil (folder_calls s.folder place)))),
       ),
@@ -116,32 +114,18 @@ file_on (Err e) s w w' place bytes time file same stay whole did = tt
 
 -- ---- entries, one behind another
 
-and_false : (b : Bool) → false ≡ (b && false)
-and_false true = refl
-and_false false = refl
-
-and_assoc : (a b c : Bool) → ((a && b) && c) ≡ (a && (b && c))
-and_assoc true b c = refl
-and_assoc false b c = refl
-
 pub one_made : (s : Stored) (w w' : Work) → MakesEntry s w w' → ExportsOne s w w'
 one_made s w w' (at, adds) = (record { entry = s; made = Some at }, refl, adds)
 
 pub one_left : (s : Stored) (w w' : Work) → w'.folders ≡ w.folders → w'.whole ≡ false → w'.done ≡ w.done → ExportsOne s w w'
-unfolding calls_of folder_of are_made is_made
-one_left s w w' same whole did = (record { entry = s; made = None }, refl, (same ∙ sym (append-nil w.folders), whole ∙ and_false w.whole, did ∙ sym (append-nil w.done)))
+unfolding calls_of folder_of
+one_left s w w' same whole did = (record { entry = s; made = None }, refl, (same ∙ sym (append-nil w.folders), whole ∙ sym (and-false w.whole), did ∙ sym (append-nil w.done)))
 
 pub one_same : (s : Stored) (w w' w'' : Work) → ExportsOne s w w' → w''.folders ≡ w'.folders → w''.whole ≡ w'.whole → w''.done ≡ w'.done → ExportsOne s w w''
 one_same s w w' w'' (p, entry, (f, b, d)) same whole did = (p, entry, (same ∙ f, whole ∙ b, did ∙ d))
 
-made_more : (ps : List ExportPart) (p : ExportPart) → are_made (ps ++ p ∷ []) ≡ (are_made ps && are_made (p ∷ []))
-unfolding are_made
-made_more [] p = refl
-made_more (q ∷ ps) p = ap (λ (b : Bool). is_made q.made && b) (made_more ps p) ∙ sym (and_assoc (is_made q.made) (are_made ps) (is_made p.made && true))
-
 pub each_none : (w : Work) → ExportsEach [] w w
-unfolding are_made
-each_none w = ([], refl, (sym (append-nil w.folders), and_true w.whole, sym (append-nil w.done)))
+each_none w = ([], refl, (sym (append-nil w.folders), sym (and-true w.whole), sym (append-nil w.done)))
 
 -- lists that grow by what is made of parts, and then of one more
 joined : {A : Type 0} (f : ExportPart → List A) (l m n : List A) (ps : List ExportPart) (p : ExportPart) → m ≡ l ++ flat_map f ps → n ≡ m ++ flat_map f (p ∷ []) → n ≡ l ++ flat_map f (ps ++ p ∷ [])
@@ -154,7 +138,7 @@ each_more ss s w w' w'' (ps, entries, (f, b, d)) (p, entry, (f', b', d')) = (
   map-append (λ (q : ExportPart). q.entry) ps (p ∷ []) ∙ (ap (λ (l : List Stored). l ++ p.entry ∷ []) entries ∙ ap (λ (x : Stored). ss ++ x ∷ []) entry),
   (
     joined folders w.folders w'.folders w''.folders ps p f f',
-    b' ∙ (ap (λ (c : Bool). c && are_made (p ∷ [])) b ∙ (and_assoc w.whole (are_made ps) (are_made (p ∷ [])) ∙ ap (λ (c : Bool). w.whole && c) (sym (made_more ps p)))),
+    b' ∙ (ap (λ (c : Bool). c && are_made (p ∷ [])) b ∙ (and_assoc w.whole (are_made ps) (are_made (p ∷ [])) ∙ ap (λ (c : Bool). w.whole && c) (sym (list_all-append (λ (q : ExportPart). is_some q.made) ps (p ∷ []))))),
     joined makes w.done w'.done w''.done ps p d d',
   ),
 )

@@ -1,6 +1,6 @@
 -- What an export asks of the system, call by call, and what it has made at its end (own).
-use Rattle.std.specs.Prelude.{◌≡◌, ℕ, Bool, true, false, ◌&&◌, if◌then◌else◌, List, [], ◌∷◌, ◌++◌, map, reverse, Option, Some, None}
-use Rattle.std.specs.List.{flat_map}
+use Rattle.std.specs.Prelude.{◌≡◌, ℕ, Bool, true, false, if◌then◌else◌, List, [], ◌∷◌, ◌++◌, map, reverse, Option, Some, None, is_some}
+use Rattle.std.specs.List.{flat_map, list_all}
 use Rattle.dav_files_core.specs.Resources.{ResourceMap, is_folder}
 use Rattle.dav_files_core.specs.Walks.{Stored, IsMapWalk}
 
@@ -40,6 +40,10 @@ calls_done [] = []
 calls_done ((call, true) ∷ more) = call ∷ calls_done more
 calls_done ((call, false) ∷ more) = calls_done more
 
+-- these were done, behind those before
+abbrev pub DoesCalls : List (SystemCall × Bool) → List (SystemCall × Bool) → List SystemCall → Type 0
+DoesCalls before after calls = calls_done after ≡ calls_done before ++ calls
+
 -- ---- entries
 
 -- an entry of the stores, and where it was made and with which time, unless it was left out
@@ -78,14 +82,9 @@ folders p = folder_of p.entry p.made
 abbrev pub ends : List ℕ × ℕ → List SystemCall
 ends at = opens at.0 ∷ sets_time at.0 at.1 ∷ syncs at.0 ∷ []
 
-unfoldable pub is_made : Option (List ℕ × ℕ) → Bool
-is_made None = false
-is_made (Some at) = true
-
 -- none was left out
-unfoldable pub are_made : List ExportPart → Bool
-are_made [] = true
-are_made (p ∷ ps) = is_made p.made && are_made ps
+abbrev pub are_made : List ExportPart → Bool
+are_made parts = list_all (λ p. is_some p.made) parts
 
 -- Each entry is made behind the folder that it stands in, or left out; then each folder that was made gets its time and is synced, from the last to the first.
 pub record IsExport (m : ResourceMap) (whole : Bool) (calls : List SystemCall) : Type 0 where
@@ -94,6 +93,6 @@ pub record IsExport (m : ResourceMap) (whole : Bool) (calls : List SystemCall) :
   pub all : whole ≡ are_made parts
   pub asked : calls ≡ flat_map makes parts ++ flat_map ends (reverse (flat_map folders parts))
 
--- such calls were done behind those that were done before
+-- such calls were done, behind those before
 abbrev pub Exports : ResourceMap → Bool → List (SystemCall × Bool) → List (SystemCall × Bool) → Type 0
-Exports m whole before after = (calls : List SystemCall) × (calls_done after ≡ calls_done before ++ calls) × IsExport m whole calls
+Exports m whole before after = (calls : List SystemCall) × DoesCalls before after calls × IsExport m whole calls

@@ -7,7 +7,7 @@ use dav_guarded_core::fs::Moment;
 use http_server::Log;
 use std::fs::{self, File, OpenOptions};
 use std::io::{self, ErrorKind, Write};
-use std::time::{Duration, SystemTime, UNIX_EPOCH};
+use std::time::{Duration, UNIX_EPOCH};
 
 const MAKES_FOLDER: u8 = 0;
 
@@ -28,27 +28,33 @@ pub(crate) trait Calls<'a> {
 
     /// Makes a folder where nothing has its name.
     fn make_folder(&mut self, place: &String) -> io::Result<()>
-        ensures noted { history self.new ≡ history self.old ++ (makes_folder (string_bytes place.now), is_ok result) ∷ [] };
+        ensures noted { history self.new
+            ≡ history self.old ++ (makes_folder (string_bytes place.now), is_ok result) ∷ [] };
 
     /// Makes a file where nothing has its name.
     fn make_file(&mut self, place: &String) -> io::Result<()>
-        ensures noted { history self.new ≡ history self.old ++ (makes_file (string_bytes place.now), is_ok result) ∷ [] };
+        ensures noted { history self.new
+            ≡ history self.old ++ (makes_file (string_bytes place.now), is_ok result) ∷ [] };
 
     /// Opens a folder.
     fn open_folder(&mut self, place: &String) -> io::Result<()>
-        ensures noted { history self.new ≡ history self.old ++ (opens (string_bytes place.now), is_ok result) ∷ [] };
+        ensures noted { history self.new
+            ≡ history self.old ++ (opens (string_bytes place.now), is_ok result) ∷ [] };
 
     /// Writes all these bytes.
     fn write(&mut self, place: &String, bytes: &'a [u8]) -> io::Result<()>
-        ensures noted { history self.new ≡ history self.old ++ (writes (string_bytes place.now) bytes.now, is_ok result) ∷ [] };
+        ensures noted { history self.new
+            ≡ history self.old ++ (writes (string_bytes place.now) bytes.now, is_ok result) ∷ [] };
 
     /// Sets the time of the last change.
     fn set_time(&mut self, place: &String, time: Moment) -> io::Result<()>
-        ensures noted { history self.new ≡ history self.old ++ (sets_time (string_bytes place.now) time.0, is_ok result) ∷ [] };
+        ensures noted { history self.new
+            ≡ history self.old ++ (sets_time (string_bytes place.now) time.0, is_ok result) ∷ [] };
 
     /// Syncs what was written and set, or what was made in a folder.
     fn sync(&mut self, place: &String) -> io::Result<()>
-        ensures noted { history self.new ≡ history self.old ++ (syncs (string_bytes place.now), is_ok result) ∷ [] };
+        ensures noted { history self.new
+            ≡ history self.old ++ (syncs (string_bytes place.now), is_ok result) ∷ [] };
 }
 
 /// A call, as it is recorded.
@@ -87,7 +93,8 @@ impl<'a> Host<'a> {
 
     // Records a call without bytes and a time.
     fn note_plain(&mut self, place: &String, call: u8, is_done: bool)
-        ensures { host_history self.new ≡ host_history self.old ++ (plain_call (string_bytes place.now) call, is_done) ∷ [] }
+        ensures { host_history self.new
+            ≡ host_history self.old ++ (plain_call (string_bytes place.now) call, is_done) ∷ [] }
     {
         self.note(
             place,

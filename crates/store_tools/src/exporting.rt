@@ -2,7 +2,7 @@
 ghost use Rattle.std.specs.Prelude.{◌≡◌, ◌++◌, ◌∷◌, [], IfErr, IfOk, IsTrue, OnOk, false, is_ok, not, reverse, string_bytes};
 ghost use Rattle.std.specs.List.{flat_map};
 ghost use Rattle.dav_files_core.specs.Resources.{is_folder};
-ghost use Rattle.store_tools.specs.Exports.{Exports, calls_done, ends, file_calls, folder_calls, sets_time, syncs, writes};
+ghost use Rattle.store_tools.specs.Exports.{DoesCalls, Exports, calls_done, ends, file_calls, folder_calls, sets_time, syncs, writes};
 ghost use Rattle.store_tools.specs.Private.ExportWork.{ExportsEach, ExportsOne, MakesEntry, folders_of, is_left_out, work_of};
 
 use crate::calls::{Calls, Host};
@@ -190,8 +190,8 @@ impl Exporter<'_> {
 
     // Ends the folders, from the last to the first: what is made in a folder changes its time.
     fn end_folders<'s, C: Calls<'s>>(&mut self, calls: &mut C) -> Result<(), Failure>
-        ensures ended { OnOk result (calls_done (C.Calls.history calls.new)
-            ≡ calls_done (C.Calls.history calls.old) ++ flat_map ends (reverse (folders_of self.old))) }
+        ensures ended { OnOk result (DoesCalls (C.Calls.history calls.old) (C.Calls.history calls.new)
+            (flat_map ends (reverse (folders_of self.old)))) }
         ensures whole { self.new.is_whole ≡ self.old.is_whole }
     {
         'ending: while let Some((place, time)) = self.folders.pop() {
@@ -212,7 +212,8 @@ impl Exporter<'_> {
             (work_of self.old (C.Calls.history calls.old))
             (work_of self.new (C.Calls.history calls.new))) }
         ensures left { IfErr result (λ e. IsTrue (is_left_out e)
-            → work_of self.new (C.Calls.history calls.new) ≡ work_of self.old (C.Calls.history calls.old)) }
+            → work_of self.new (C.Calls.history calls.new)
+            ≡ work_of self.old (C.Calls.history calls.old)) }
     {
         let place = self.place_of(stored, root)?;
         let time = time_for(stored);
@@ -228,7 +229,8 @@ impl Exporter<'_> {
 
     // Keeps where a folder was made.
     fn keep_folder(&mut self, number: u64, place: String, time: Moment) -> Result<(), AllocError>
-        ensures kept { OnOk result (folders_of self.new ≡ folders_of self.old ++ (string_bytes place, time.0) ∷ []) }
+        ensures kept { OnOk result (folders_of self.new
+            ≡ folders_of self.old ++ (string_bytes place, time.0) ∷ []) }
         ensures whole { self.new.is_whole ≡ self.old.is_whole }
     {
         let count = self.folders.len();
@@ -302,8 +304,8 @@ fn make_file<'s, C: Calls<'s>>(
     bytes: &'s [u8],
     time: Moment,
 ) -> Result<(), Unmade>
-    ensures made { OnOk result (calls_done (C.Calls.history calls.new)
-        ≡ calls_done (C.Calls.history calls.old) ++ file_calls (string_bytes place.now) bytes.now time.0) }
+    ensures made { OnOk result (DoesCalls (C.Calls.history calls.old) (C.Calls.history calls.new)
+        (file_calls (string_bytes place.now) bytes.now time.0)) }
     ensures left { IfErr result (λ e. IsTrue (is_left_out e)
         → calls_done (C.Calls.history calls.new) ≡ calls_done (C.Calls.history calls.old)) }
 {
@@ -323,9 +325,9 @@ fn fill<'s, C: Calls<'s>>(
     bytes: &'s [u8],
     time: Moment,
 ) -> io::Result<()>
-    ensures filled { OnOk result (calls_done (C.Calls.history calls.new)
-        ≡ calls_done (C.Calls.history calls.old) ++ writes (string_bytes place.now) bytes.now
-        ∷ sets_time (string_bytes place.now) time.0 ∷ syncs (string_bytes place.now) ∷ []) }
+    ensures filled { OnOk result (DoesCalls (C.Calls.history calls.old) (C.Calls.history calls.new)
+        (writes (string_bytes place.now) bytes.now ∷ sets_time (string_bytes place.now) time.0
+        ∷ syncs (string_bytes place.now) ∷ [])) }
 {
     calls.write(place, bytes)?;
     calls.set_time(place, time)?;
@@ -339,8 +341,8 @@ fn make_folder<'s, C: Calls<'s>>(
     place: &String,
     above: Option<u64>,
 ) -> Result<(), Unmade>
-    ensures made { OnOk result (calls_done (C.Calls.history calls.new)
-        ≡ calls_done (C.Calls.history calls.old) ++ folder_calls above (string_bytes place.now)) }
+    ensures made { OnOk result (DoesCalls (C.Calls.history calls.old) (C.Calls.history calls.new)
+        (folder_calls above (string_bytes place.now))) }
     ensures left { IfErr result (λ e. IsTrue (is_left_out e)
         → calls_done (C.Calls.history calls.new) ≡ calls_done (C.Calls.history calls.old)) }
 {
@@ -353,8 +355,8 @@ fn make_folder<'s, C: Calls<'s>>(
 
 // Ends a folder, in which all is made.
 fn end_folder<'s, C: Calls<'s>>(calls: &mut C, place: &String, time: Moment) -> io::Result<()>
-    ensures ended { OnOk result (calls_done (C.Calls.history calls.new)
-        ≡ calls_done (C.Calls.history calls.old) ++ ends (string_bytes place.now, time.0)) }
+    ensures ended { OnOk result (DoesCalls (C.Calls.history calls.old) (C.Calls.history calls.new)
+        (ends (string_bytes place.now, time.0))) }
 {
     calls.open_folder(place)?;
     calls.set_time(place, time)?;

@@ -17,10 +17,10 @@ from repository import LISTENER, TOP, tell
 from usages import HELP
 
 # The options of the listener; of these the program has one, too.
-OF_LISTENER = {"--" + name for name in "listen connections connections-per-address idle head rate stall linger grace memory window users tls-cert tls-key proxy-protocol".split()}
+OF_LISTENER = {"--" + name for name in "listen connections connections-per-address idle head rate stall linger grace memory window users tls-cert tls-key proxy-protocol wait".split()}
 OF_BOTH = {"--window"}
-# The options that have no value. They are the program's.
-FLAGS = {"--read-only", "--existing"}
+# The options that have no value.
+FLAGS = {"--read-only", "--existing", "--wait"}
 
 
 def version(program):

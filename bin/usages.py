@@ -2,7 +2,7 @@
 
 HELP = {
     "davserve": """\
-usage: bin/davserve [PORT] [OPTION VALUE].. [--read-only] [--existing]
+usage: bin/davserve [PORT] [OPTION VALUE].. [--read-only] [--existing] [--wait]
        bin/davserve --make-cert NAME[,NAME..] DIR
 
 Serves a WebDAV folder on 127.0.0.1 at PORT, else 8080 (0: any that is free), and prints its URL once it serves. With --store a file keeps it; else it is empty at first, and gone when it ends.
@@ -10,6 +10,7 @@ It runs what was proved on this machine, or else the release in this repository.
 
   --store FILE                    the file that keeps what is put, through any crash; it is made where it isn't there. What it keeps stands in memory, too
   --existing                      FILE has to be there: no new one is made (bin/davstore FILE new makes one)
+  --lease SECONDS                 where machines share FILE: no other one serves it within so many seconds, 1 to 60, of when it was last seen that this one may write it; clients get in only while it is served. Not with sockets that are handed over
   --sync always|second            when FILE has what is changed: before an answer tells of it, as without this; or once a second, so that a crash takes at most the last second's changes
   --compact-over BYTES            at the start FILE is written anew where it has more bytes than that, 67108864 without this,
   --compact-useless PERCENT       and where more than so many hundredths of it are of no use any more, 50 without this
@@ -48,6 +49,7 @@ Of the listener in front of it (docs/OPERATIONS.md):
   --tls-cert FILE                 a certificate with its chain, in PEM: TLS is spoken at all addresses but unix sockets and ADDRESS:PORT,plain; several times, for several names; read again on SIGHUP
   --tls-key FILE                  its key, in PEM, without a password; one for each --tls-cert, in the same order
   --proxy-protocol ADDRESSES      each connection from there (addresses, networks as 10.0.0.0/8, or unix, with commas between) begins with a header of the PROXY protocol, version 2, which tells where its client is; not with --user-header or --address-header
+  --wait                          for a standby: while FILE of --store is in use, or can't be opened or read, it is tried again each half second; clients get in only while it is served. Not with sockets that are handed over
 """,
     "davstore": """\
 usage: bin/davstore FILE check

@@ -86,6 +86,24 @@ enum Socket {
     Unix(UnixListener),
 }
 
+/// An address at which clients are to come, the word that asks for it, and whether TLS is spoken there.
+pub struct Asked {
+    pub word: String,
+    pub address: Address,
+    pub speaks_tls: bool,
+}
+
+impl Asked {
+    /// Where any port will do, it is the same one the next time.
+    pub fn open(&mut self) -> Result<Listener, Fault> {
+        let listener = Listener::open(&self.word, &self.address, self.speaks_tls)?;
+        if let Socket::Internet(socket) = &listener.socket {
+            self.address = socket.local_addr().map_or(self.address.clone(), Address::Internet);
+        }
+        Ok(listener)
+    }
+}
+
 pub struct Listener {
     socket: Socket,
     /// The file of a socket of Unix, where it was made here. It goes with this.
@@ -95,7 +113,7 @@ pub struct Listener {
 
 impl Listener {
     /// An Err names the word that asks for it.
-    pub fn open(word: &str, address: &Address, speaks_tls: bool) -> Result<Listener, Fault> {
+    fn open(word: &str, address: &Address, speaks_tls: bool) -> Result<Listener, Fault> {
         let opened = match address {
             Address::Internet(address) => open_internet(address).map(|socket| (socket, None)),
             Address::Unix(path, mode) => open_unix(path, *mode).map(|(listener, file)| (Socket::Unix(listener), Some(file))),

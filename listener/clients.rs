@@ -1,6 +1,7 @@
 //! All clients: who is let in, what they are told, and who is late.
 use crate::client::{Client, Sent};
 use crate::frames::{self, Line};
+use crate::lease;
 use crate::openssl::Contexts;
 use crate::places::{Place, Places};
 use crate::poll::Poll;
@@ -207,15 +208,19 @@ impl Clients {
         self.arm(key);
     }
 
-    /// Another program will come, which knows of no client: those that have begun are over, and get what was handed out to them. Those that have said nothing stay.
-    pub fn begin_again(&mut self) {
+    /// Another program will come, which knows of no client: those that have begun are over, and get what was handed out to them. Those that have said nothing may stay.
+    pub fn begin_again(&mut self, keeps_silent: bool) {
         (self.to, self.is_asked) = (ToProgram::new(), false);
         self.by_number.clear();
         let keys: Vec<_> = self.by_key.keys().copied().collect();
         for key in keys {
-            if let Some(client) = self.by_key.get_mut(&key).filter(|client| client.number().is_some()) {
-                client.forget();
-                self.settle(key);
+            match self.by_key.get_mut(&key) {
+                Some(client) if client.number().is_some() => {
+                    client.forget();
+                    self.settle(key);
+                }
+                Some(client) if !keeps_silent && !client.is_over() => self.lose(key),
+                _ => {}
             }
         }
     }
@@ -361,7 +366,7 @@ impl Clients {
             Told::Line(Line::Rests(number, bytes)) => self.waits(number, Turn::Rests, bytes),
             Told::Line(Line::Owes(number, bytes)) => self.waits(number, Turn::Owes, bytes),
             // Its bytes come behind it; and that the program is ready is no client's matter.
-            Told::Line(Line::Bytes(..) | Line::Ready) => {}
+            Told::Line(Line::Bytes(..) | Line::Ready | Line::Locked(_) | Line::Touched) => {}
         }
     }
 
@@ -382,7 +387,7 @@ impl Clients {
         let key = from.long_piece().and_then(|number| self.by_number.get(&number).copied());
         let found = key.and_then(|key| Some((key, self.by_key.get_mut(&key)?)));
         let (key, client) = match found {
-            Some((key, client)) if client.waits_for_nothing() && client.wire.is_plain() => (key, client),
+            Some((key, client)) if client.waits_for_nothing() && client.wire.is_plain() && !lease::is_there() => (key, client),
             _ => return false,
         };
         match from.move_to(&client.wire.socket) {

@@ -18,6 +18,8 @@ pub const FAILED: i32 = 6;
 pub const NO_USERS: i32 = 7;
 /// TLS can't be spoken: certificates or keys can't be read, or there is no library.
 pub const NO_TLS: i32 = 8;
+/// The lease of the store's file is over.
+pub const LEASE_OVER: i32 = 9;
 /// Where the program has ended by itself: its own status behind this, or the last of these; and where a signal has ended it.
 pub const PROGRAM_ENDED: i32 = 20;
 pub const LAST_OF_PROGRAM: i32 = 39;

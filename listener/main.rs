@@ -10,6 +10,8 @@ mod client;
 mod clients;
 mod fault;
 mod frames;
+mod held;
+mod lease;
 mod notify;
 mod openssl;
 mod options;
@@ -21,19 +23,25 @@ mod refusals;
 mod runs;
 mod server;
 mod sockets;
+mod space;
+mod standby;
 mod system;
 mod telling;
 mod times;
 mod users;
 mod wire;
 
-use addresses::Listener;
+use addresses::{Asked, Listener};
 use certificates::Certificates;
-use fault::{Fault, FAILED, LAST_OF_PROGRAM, NO_PROGRAM, PROGRAM_ENDED, PROGRAM_KILLED, STOPPED, TOO_FEW_FILES, WRONG_FRAME};
+use fault::{Fault, FAILED, LAST_OF_PROGRAM, LEASE_OVER, NO_PROGRAM, PROGRAM_ENDED, PROGRAM_KILLED, STOPPED, TOO_FEW_FILES, WRONG_FRAME};
+use held::Held;
+use lease::Lease;
 use options::{Options, USAGE};
 use program::Pipes;
-use runs::Runs;
+use runs::{Again, Runs};
 use server::{End, Files, Manner, Server};
+use space::Space;
+use standby::Standby;
 use std::fmt::Arguments;
 use std::fs::{read_to_string, File};
 use std::io::{self, Write};
@@ -76,8 +84,20 @@ fn run(options: &Options) -> Result<i32, Fault> {
     check_files(options.connections as u64)?;
     let users = options.users.as_deref().map(Users::open).transpose()?;
     let certificates = Certificates::open(&options.certificates)?;
-    let listeners = listen(&options.addresses, certificates.is_some())?;
-    serve(options, listeners, Files { users, certificates })
+    let mut listeners = addresses::handed_over(certificates.is_some())?;
+    if options.lets_in_late() && !listeners.is_empty() {
+        return Err(Fault::words(format_args!(
+            "--wait and --lease: not with sockets that are handed over, where clients get in before it serves"
+        )));
+    }
+    let mut asked = asked(&options.addresses, !listeners.is_empty(), certificates.is_some())?;
+    if options.lets_in_late() {
+        return serve(options, listeners, Some(Standby::new(asked)), Files { users, certificates });
+    }
+    for it in &mut asked {
+        listeners.push(it.open()?);
+    }
+    serve(options, listeners, None, Files { users, certificates })
 }
 
 fn check_files(connections: u64) -> Result<(), Fault> {
@@ -91,34 +111,33 @@ fn check_files(connections: u64) -> Result<(), Fault> {
     }
 }
 
-/// Where clients come: what is handed over, and what is asked for.
-fn listen(words: &[String], has_certificates: bool) -> Result<Vec<Listener>, Fault> {
-    let mut listeners = addresses::handed_over(has_certificates)?;
+/// Where clients are to come, beside what may be handed over.
+fn asked(words: &[String], is_handed: bool, has_certificates: bool) -> Result<Vec<Asked>, Fault> {
     let default = ["127.0.0.1:8080".to_string()];
-    let words = if words.is_empty() && listeners.is_empty() { &default } else { words };
+    let words = if words.is_empty() && !is_handed { &default } else { words };
+    let mut asked = Vec::new();
     for word in words {
         let (place, speaks_tls) = addresses::spoken(word, has_certificates);
         if speaks_tls && !has_certificates {
             return Err(Fault::words(format_args!("{}: there is no --tls-cert", word)));
         }
-        for address in addresses::read(place)? {
-            listeners.push(Listener::open(word, &address, speaks_tls)?);
-        }
+        asked.extend(addresses::read(place)?.into_iter().map(|address| Asked { word: word.clone(), address, speaks_tls }));
     }
-    Ok(listeners)
+    Ok(asked)
 }
 
 /// Runs the program and serves; the status is that of the end.
-fn serve(options: &Options, listeners: Vec<Listener>, files: Files) -> Result<i32, Fault> {
+fn serve(options: &Options, listeners: Vec<Listener>, standby: Option<Standby>, files: Files) -> Result<i32, Fault> {
     let signals = File::from(system::signals()?);
     let memory = options.memory.unwrap_or_else(half_of_memory);
-    let mut runs = Runs::new(&options.program);
+    let mut runs = Runs::new(&options.program, options.waits);
     let (mut child, pipes) = begin(&runs, memory)?;
     let most = (options.connections, options.connections_per_address);
     let clients = clients::Clients::new(poll::Poll::new()?, options.limits, most, options.window, options.proxies.clone());
-    let telling = Telling::new(options, &listeners, memory);
     let keeps_late = options.program.windows(2).any(|words| words[0] == "--sync" && words[1] == "second");
-    let mut server = Server::new(clients, listeners, signals, files, telling, Manner { grace: options.grace, keeps_late })?;
+    let manner =
+        Manner { grace: options.grace, keeps_late, space: Space::of(&options.program), lease: options.lease().map(Lease::new), standby };
+    let mut server = Server::new(clients, listeners, signals, files, Telling { options, memory }, manner)?;
     server.begin(pipes)?;
     loop {
         match server.run() {
@@ -128,11 +147,19 @@ fn serve(options: &Options, listeners: Vec<Listener>, files: Files) -> Result<i3
                 server.begin(pipes)?;
             }
             End::Program if pauses(&mut server, &mut runs, &mut child) => {}
+            End::LeaseOver => {
+                // A program that waits for a file system which hangs can't be killed, and so isn't waited for.
+                let _ = child.kill();
+                say(format_args!(
+                    "the lease of the store is over: its file could not be touched in time, and another machine may serve it"
+                ));
+                return Ok(LEASE_OVER);
+            }
             why => {
-                let (is_running, patience) = (server.has_program(), server.patience());
+                let (is_running, patience, held) = (server.has_program(), server.patience(), server.take_held());
                 // The program sees the end of its input.
                 drop(server);
-                return Ok(if is_running { end_of(&mut child, why, patience) } else { STOPPED });
+                return Ok(if is_running { end_of(&mut child, held, why, patience) } else { STOPPED });
             }
         }
     }
@@ -140,7 +167,7 @@ fn serve(options: &Options, listeners: Vec<Listener>, files: Files) -> Result<i3
 
 /// Runs the program.
 fn begin(runs: &Runs, memory: u64) -> Result<(Child, Pipes), Fault> {
-    let started = program::start(runs.words(), Some(memory).filter(|bytes| *bytes > 0));
+    let started = program::start(runs.words(), Some(memory).filter(|bytes| *bytes > 0), runs.is_try());
     started.map_err(|error| Fault::new(NO_PROGRAM, format_args!("{}: {}", runs.words()[0].to_string_lossy(), error)))
 }
 
@@ -151,20 +178,30 @@ fn pauses(server: &mut Server, runs: &mut Runs, child: &mut Child) -> bool {
     }
     let served = server.served();
     let status = wait(child, server.patience());
-    let (why, pause) = match runs.again(status, served) {
+    let again = match runs.again(status, served) {
         Some(again) => again,
         None => return false,
     };
+    if !again.is_known {
+        server.take_held().into_iter().for_each(Held::end);
+        tell_again(again, status);
+    }
+    server.pause(again.pause, again.is_try);
+    true
+}
+
+/// Says why, and when, a program is run again that has ended so.
+fn tell_again(again: Again, status: Option<ExitStatus>) {
+    if again.is_try {
+        return say(format_args!("{}: waiting for it", again.why));
+    }
     let status = status.map_or("ended".into(), |it| it.to_string());
-    let seconds = pause / 1000;
-    let when = match seconds {
+    let when = match again.pause / 1000 {
         0 => "at once".into(),
         1 => "in 1 second".into(),
-        _ => format!("in {} seconds", seconds),
+        seconds => format!("in {} seconds", seconds),
     };
-    say(format_args!("the program {} ({}); all connections are ended, and it is run again {}", why, status, when));
-    server.pause(pause);
-    true
+    say(format_args!("the program {} ({}); all connections are ended, and it is run again {}", again.why, status, when));
 }
 
 fn half_of_memory() -> u64 {
@@ -189,17 +226,22 @@ fn wait(child: &mut Child, most: u64) -> Option<ExitStatus> {
 }
 
 /// Waits for the program to end, and tells what it was.
-fn end_of(child: &mut Child, why: End, patience: u64) -> i32 {
+fn end_of(child: &mut Child, held: Option<Held>, why: End, patience: u64) -> i32 {
     let status = wait(child, if matches!(why, End::Killed) { 0 } else { patience });
+    held.into_iter().for_each(Held::end);
     let told = status.map_or("ended".into(), |it| it.to_string());
     let code = status.and_then(|it| it.code());
     match why {
         End::Stopped if code.map_or(true, |it| it <= ALL_KEPT) => return STOPPED,
-        End::Killed | End::Due => return STOPPED,
+        End::Killed | End::Due | End::LeaseOver => return STOPPED,
         End::Stopped | End::Program => say(format_args!("the program has ended: {}", told)),
         End::BadFrame => {
             say(format_args!("the program tells what is no frame ({})", told));
             return WRONG_FRAME;
+        }
+        End::NoAddress(fault) => {
+            say(format_args!("{}", fault));
+            return fault.status();
         }
         End::Failed(what, error) => {
             say(format_args!("{}: {}", what, error));

@@ -1,12 +1,13 @@
 //! The words of the command line.
 use crate::fault::Fault;
+use crate::lease;
 use crate::proxied::Proxies;
 use crate::times::Limits;
 use std::ffi::OsString;
 use std::path::PathBuf;
 
 pub const USAGE: &str = "\
-usage: listen [OPTION VALUE].. [PORT] PROGRAM [WORD..]
+usage: listen [OPTION VALUE].. [--wait] [PORT] PROGRAM [WORD..]
 
 Listens for clients, runs the program, and moves their bytes to it and back, in frames. Prints a URL for each address once the program is ready.
 
@@ -30,6 +31,8 @@ Listens for clients, runs the program, and moves their bytes to it and back, in 
   --tls-key FILE                  its key, in PEM, without a password
   --proxy-protocol ADDRESSES      each connection from there (addresses, networks as 10.0.0.0/8, or unix, with commas between) begins with a
                                   header of the PROXY protocol, version 2, which tells where its client is
+  --wait                          for a standby: while the file of the program's --store is in use, or can't be opened or read, the program
+                                  is run again each half second; clients get in only while it serves. Not with sockets that are handed over
 ";
 
 /// One address has such a part of all places, where nothing else is said.
@@ -60,6 +63,8 @@ pub struct Options {
     /// Files of certificates, with those of their keys.
     pub certificates: Vec<(PathBuf, PathBuf)>,
     pub proxies: Proxies,
+    /// Whether the program's store is waited for.
+    pub waits: bool,
     pub program: Vec<OsString>,
 }
 
@@ -77,6 +82,7 @@ impl Options {
             users: None,
             certificates: Vec::new(),
             proxies: Proxies::default(),
+            waits: false,
             program: Vec::new(),
         }
     }
@@ -87,6 +93,10 @@ impl Options {
         let mut keys = Vec::new();
         while let Some(name) = words.next_if(|word| word.to_str().map_or(false, |it| it.starts_with("--"))) {
             let name = name.to_string_lossy().into_owned();
+            if name == "--wait" {
+                options.waits = true;
+                continue;
+            }
             let value = words.next().ok_or_else(|| Fault::words(format_args!("{} has no value", name)))?;
             match name.as_str() {
                 "--tls-cert" | "--tls-key" if value.is_empty() => return Err(Fault::words(format_args!("{} names no file", name))),
@@ -115,12 +125,26 @@ impl Options {
         self.program.iter().any(|word| word == name)
     }
 
+    /// The lease that the program has of its store's file, in seconds.
+    pub fn lease(&self) -> Option<u64> {
+        let pair = self.program.windows(2).find(|pair| pair[0] == "--lease")?;
+        pair[1].to_str()?.parse().ok().filter(|seconds| (1..=lease::LONGEST).contains(seconds))
+    }
+
+    /// Whether clients get in only while the program serves.
+    pub fn lets_in_late(&self) -> bool {
+        self.waits || self.lease().is_some()
+    }
+
     fn check_program(&self) -> Result<(), Fault> {
         if self.program.is_empty() {
             return Err(Fault::words(format_args!("there is no program")));
         }
         if self.users.is_some() && !self.program_has("--login") {
             return Err(Fault::words(format_args!("--users: the program has no --login, and so would let in whoever comes")));
+        }
+        if self.waits && !self.program.windows(2).any(|pair| pair[0] == "--store") {
+            return Err(Fault::words(format_args!("--wait: the program has no --store FILE to wait for")));
         }
         let written = ["--address-header", "--user-header"].into_iter().find(|name| self.program_has(name));
         match written {
@@ -187,6 +211,19 @@ mod tests {
         let pairs = read("--tls-cert a --tls-cert b --tls-key c --tls-key d p").unwrap().certificates;
         assert_eq!(pairs, [("a".into(), "c".into()), ("b".into(), "d".into())]);
         assert_eq!(read("--users a --users b program --login").unwrap().users, Some(PathBuf::from("b")));
+        let waiting = read("--wait --idle 3 80 program --store a").unwrap();
+        assert_eq!((waiting.waits, waiting.limits.idle, waiting.addresses.len(), options.waits), (true, 3000, 1, false));
+        for (words, lease) in [
+            ("p --lease 4", Some(4)),
+            ("p --lease 60", Some(60)),
+            ("p --lease 61", None),
+            ("p --lease 0", None),
+            ("p --lease", None),
+            ("p", None),
+        ] {
+            let read = read(words).unwrap();
+            assert_eq!((read.lease(), read.lets_in_late()), (lease, lease.is_some()), "{}", words);
+        }
     }
 
     #[test]
@@ -195,6 +232,7 @@ mod tests {
             ["", "80", "--idle 3", "--idle x program", "--idle 0 program", "--idle", "--none 1 program", "--rate -1 p", "--users a p"]
                 .into_iter()
                 .chain(["--tls-cert a p", "--tls-key a p", "--tls-cert a --tls-cert b --tls-key c p"])
+                .chain(["--wait p", "--wait p --store", "--wait"])
                 .chain(["--proxy-protocol x p", "--proxy-protocol unix p --user-header a", "--proxy-protocol unix p --address-header a"])
         {
             assert!(read(words).is_err(), "{}", words);

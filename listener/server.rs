@@ -2,10 +2,15 @@
 use crate::addresses::Listener;
 use crate::certificates::Certificates;
 use crate::clients::{is_want, Clients, FIRST_KEY};
+use crate::fault::Fault;
 use crate::frames::{self, Line};
+use crate::held::Held;
+use crate::lease::{Lease, Word};
 use crate::notify::notify;
 use crate::program::{FromProgram, Pipes, Told};
 use crate::say;
+use crate::space::Space;
+use crate::standby::Standby;
 use crate::system::{self, Event, IN, OUT};
 use crate::telling::Telling;
 use crate::users::Users;
@@ -37,17 +42,24 @@ pub enum End {
     Program,
     BadFrame,
     Due,
+    /// Clients can't get in where they are to, once the program serves.
+    NoAddress(Fault),
+    /// The lease of the store is over.
+    LeaseOver,
     Failed(&'static str, io::Error),
 }
 
-pub struct Server {
+pub struct Server<'a> {
     clients: Clients,
     /// What the program tells. While none runs, when the next one is due.
     from: Option<FromProgram>,
     due: u64,
+    /// What it says on standard error, where that is held back.
+    held: Option<Held>,
     /// Since when the program is ready; and what is told once the first one is.
     ready: Option<u64>,
-    telling: Option<Telling>,
+    telling: Option<Telling<'a>>,
+    standby: Option<Standby>,
     listeners: Vec<Listener>,
     signals: File,
     users: Option<Users>,
@@ -64,6 +76,10 @@ pub struct Server {
     /// Whether the program keeps what it has changed once it is told the moment, and when it is told.
     keeps_late: bool,
     keeps: Option<u64>,
+    /// What is free on the disk of the store.
+    space: Option<Space>,
+    /// The lease of the store's file, where the program has one.
+    lease: Option<Lease>,
     /// Whether the pipe to the program is waited for.
     is_writing: bool,
 }
@@ -79,29 +95,33 @@ pub struct Manner {
     pub grace: u64,
     /// Whether the program keeps what it has changed once it is told the moment.
     pub keeps_late: bool,
+    /// What is free on the disk of the store, where the program has one.
+    pub space: Option<Space>,
+    pub lease: Option<Lease>,
+    /// With --wait. There are no listeners then before the program serves.
+    pub standby: Option<Standby>,
 }
 
-impl Server {
+impl<'a> Server<'a> {
     /// Without a program, which is to begin next.
     pub fn new(
         clients: Clients,
         listeners: Vec<Listener>,
         signals: File,
         files: Files,
-        telling: Telling,
+        telling: Telling<'a>,
         manner: Manner,
-    ) -> io::Result<Server> {
+    ) -> io::Result<Server<'a>> {
         clients.poll.add(signals.as_raw_fd(), IN, SIGNALS)?;
-        for (listener, key) in listeners.iter().zip(FIRST_LISTENER..FIRST_KEY) {
-            clients.poll.add(listener.file(), IN, key)?;
-        }
         let mut server = Server {
             clients,
             from: None,
             due: 0,
+            held: None,
             ready: None,
             telling: Some(telling),
-            listeners,
+            standby: manner.standby,
+            listeners: Vec::new(),
             signals,
             users: files.users,
             certificates: files.certificates,
@@ -114,10 +134,22 @@ impl Server {
             stops: None,
             keeps_late: manner.keeps_late,
             keeps: None,
+            space: manner.space,
+            lease: manner.lease,
             is_writing: false,
         };
+        server.let_in(listeners)?;
         server.tell_users();
         Ok(server)
+    }
+
+    /// Clients may come here from now on.
+    fn let_in(&mut self, listeners: Vec<Listener>) -> io::Result<()> {
+        for (listener, key) in listeners.iter().zip(FIRST_LISTENER..FIRST_KEY) {
+            self.clients.poll.add(listener.file(), IN, key)?;
+        }
+        (self.listeners, self.listens) = (listeners, true);
+        Ok(())
     }
 
     /// Goes on with a program.
@@ -126,19 +158,33 @@ impl Server {
         self.clients.poll.add(pipes.from.as_raw_fd(), IN, FROM_PROGRAM)?;
         self.clients.to.begin(pipes.to);
         self.from = Some(FromProgram::new(pipes.from));
+        self.held = pipes.held;
         Ok(())
     }
 
-    /// Waits so many milliseconds for the next program, behind one that has ended.
-    pub fn pause(&mut self, milliseconds: u64) {
+    /// Waits so many milliseconds for the next program, behind one that has ended; that one may be a try to have the store.
+    pub fn pause(&mut self, milliseconds: u64, is_try: bool) {
         // The pipes of that one are closed, and so the poll knows them no more.
         self.from = None;
+        self.held = None;
         self.ready = None;
-        self.clients.begin_again();
+        self.clients.begin_again(self.standby.is_none());
         self.is_writing = false;
+        self.space.iter_mut().for_each(Space::forget);
+        self.lease.iter_mut().for_each(Lease::begin);
         self.tell_users();
         self.clients.set_now(self.began.elapsed().as_millis() as u64);
         self.due = self.clients.now() + milliseconds;
+        if let Some(standby) = &mut self.standby {
+            // Another machine may serve.
+            self.listeners.clear();
+            standby.wait(is_try, self.clients.now());
+        }
+    }
+
+    /// What the program says on standard error, where that is held back.
+    pub fn take_held(&mut self) -> Option<Held> {
+        self.held.take()
     }
 
     /// For how many milliseconds the program has served; none where it wasn't ready.
@@ -181,9 +227,12 @@ impl Server {
         // Where the program asks for more, all that has come by now is looked at first.
         let is_asked = self.clients.is_asked();
         let hears = self.clients.begin_turn();
-        let time = if is_asked || hears { 0 } else { self.time_to_wait() };
+        let time = if is_asked || hears { 0 } else { self.time_with_lease(self.time_to_wait()) };
         let count = self.clients.poll.wait(events, time).map_err(|error| End::Failed("waiting", error))?;
         self.clients.set_now(self.began.elapsed().as_millis() as u64);
+        if count > 0 {
+            self.tell_free();
+        }
         for event in &events[..count] {
             self.handle(event.key, event.events)?;
         }
@@ -193,10 +242,11 @@ impl Server {
         if is_asked {
             self.clients.say_none();
         }
-        if self.reads_users && self.clients.to.has_room() {
+        if self.reads_users && self.takes_frames() && self.clients.to.has_room() {
             self.read_users();
         }
         self.tell_moment(count);
+        self.look_at_lease()?;
         self.write_out()?;
         if self.clients.now() >= self.ticks {
             self.ticks = self.clients.now() + TICK;
@@ -281,11 +331,14 @@ impl Server {
             let was_filled = from.was_filled();
             let mut is_ready = false;
             while let Some(told) = from.next().map_err(|()| End::BadFrame)? {
+                if let Told::Line(line) = &told {
+                    check_lease(&mut self.lease, *line)?;
+                }
                 is_ready |= matches!(told, Told::Line(Line::Ready));
                 self.clients.told(told);
             }
             if is_ready {
-                self.go_on_ready();
+                self.go_on_ready()?;
             }
             if !was_filled {
                 return Ok(());
@@ -295,11 +348,19 @@ impl Server {
     }
 
     /// The program serves from now on. Whoever started this is told so the first time.
-    fn go_on_ready(&mut self) {
-        self.ready = Some(self.clients.now());
-        if let (Some(telling), None) = (self.telling.take(), self.stops) {
-            telling.tell();
+    fn go_on_ready(&mut self) -> Result<(), End> {
+        let now = self.clients.now();
+        self.ready = Some(now);
+        self.held.iter().for_each(Held::pass_on);
+        if let Some(standby) = &mut self.standby {
+            let listeners = standby.open().map_err(End::NoAddress)?;
+            self.let_in(listeners).map_err(|error| End::Failed("waiting for clients", error))?;
         }
+        if let (Some(telling), None) = (self.telling.take(), self.stops) {
+            telling.tell(&self.listeners);
+        }
+        self.standby.iter_mut().for_each(|it| it.serves(now));
+        Ok(())
     }
 
     // ---- Clients that come.
@@ -346,13 +407,60 @@ impl Server {
 
     /// Tells the program the moment a second behind what came for it, where that is what it waits for.
     fn tell_moment(&mut self, count: usize) {
-        if self.keeps_late && count > 0 && self.keeps.is_none() {
+        if self.keeps_late && count > 0 && self.keeps.is_none() && self.takes_frames() {
             self.keeps = Some(self.clients.now() + KEEPS);
         }
         if self.keeps.map_or(false, |at| self.clients.now() >= at) && self.clients.to.has_room() {
             let since = SystemTime::now().duration_since(UNIX_EPOCH).unwrap_or_default();
             self.clients.to.say(&frames::clock(since.as_nanos() as u64));
             self.keeps = None;
+        }
+    }
+
+    // ---- What is free on the disk.
+
+    /// Tells the program what was found last, and has the system asked again.
+    fn tell_free(&mut self) {
+        let now = self.clients.now();
+        if let (Some(space), Some(_), true) = (&mut self.space, self.ready, self.clients.to.has_room()) {
+            space.news().into_iter().for_each(|bytes| self.clients.to.say(&frames::free(bytes)));
+            space.ask(now);
+        }
+    }
+
+    // ---- A lease.
+
+    /// Whether the program takes any frame: before it is ready it takes none but those of its lease.
+    fn takes_frames(&self) -> bool {
+        self.ready.is_some() || self.lease.is_none()
+    }
+
+    /// Tells the program what is due, unless the lease is over.
+    fn look_at_lease(&mut self) -> Result<(), End> {
+        let lease = match (&mut self.lease, &self.from) {
+            (Some(lease), Some(_)) => lease,
+            _ => return Ok(()),
+        };
+        let now = system::boot_time();
+        if lease.is_over(now) {
+            return Err(End::LeaseOver);
+        }
+        while let Some(word) = lease.word(now) {
+            self.clients.to.say(&match word {
+                Word::Go => frames::go(),
+                Word::Touch => frames::touch(),
+            });
+        }
+        Ok(())
+    }
+
+    /// As long at most as the lease lets it wait.
+    fn time_with_lease(&self, time: i32) -> i32 {
+        let left = self.lease.as_ref().filter(|_| self.from.is_some()).and_then(|it| it.time_left(system::boot_time()));
+        match left {
+            Some(left) if time < 0 => left as i32,
+            Some(left) => time.min(left as i32),
+            None => time,
         }
     }
 
@@ -371,9 +479,10 @@ impl Server {
                 return Err(End::Killed);
             }
             notify("STOPPING=1");
-            if self.from.is_none() {
-                // Nobody can be answered.
-                return Err(End::Stopped);
+            if self.from.is_none() || (self.standby.is_some() && self.ready.is_none()) {
+                // Nobody can be answered, and what a try has said tells nothing.
+                self.held = None;
+                return Err(End::Killed);
             }
             for listener in self.listeners.drain(..) {
                 // Who has handed it over may still have it, and then the poll would go on telling of it.
@@ -422,5 +531,30 @@ impl Server {
             Err(error) => return say(format_args!("the users stay: {}: {}", path, error)),
         }
         self.tell_users();
+    }
+}
+
+/// Takes what a line says of a lease. The program may serve only with one, where there is to be one.
+fn check_lease(lease: &mut Option<Lease>, line: Line) -> Result<(), End> {
+    let is_right = match (lease, line) {
+        (Some(lease), Line::Locked(seconds)) => lease.locked(seconds, system::boot_time()),
+        (Some(lease), Line::Touched) => match lease.touched(system::boot_time()) {
+            Some(time) => {
+                lease.apply();
+                if lease.is_long(time) {
+                    say(format_args!("the file of the store was touched behind {} milliseconds, which is long for its lease", time));
+                }
+                true
+            }
+            None => false,
+        },
+        (None, Line::Locked(_) | Line::Touched) => false,
+        (Some(lease), Line::Ready) => lease.is_held(),
+        _ => true,
+    };
+    if is_right {
+        Ok(())
+    } else {
+        Err(End::BadFrame)
     }
 }

@@ -1,5 +1,6 @@
 //! The system calls that std lacks. All that is unsafe stands here, but for TLS.
-use std::os::raw::{c_int, c_uint, c_void};
+use std::ffi::CStr;
+use std::os::raw::{c_char, c_int, c_uint, c_void};
 use std::os::unix::io::{AsRawFd, FromRawFd, OwnedFd, RawFd};
 use std::os::unix::process::CommandExt;
 use std::{io, process::Command, ptr::null_mut};
@@ -55,6 +56,8 @@ pub const USER_TIMEOUT: SocketOption = (6, 18);
 pub const UNSENT_AT_MOST: SocketOption = (6, 25);
 pub const FILES: c_int = 7;
 const ADDRESS_SPACE: c_int = 9;
+/// The clock that goes on while the machine sleeps.
+const SINCE_BOOT: c_int = 7;
 
 /// An event, as the kernel lays it out.
 #[cfg_attr(target_arch = "x86_64", repr(packed))]
@@ -83,6 +86,8 @@ extern "C" {
     fn getrlimit(what: c_int, limit: *mut [u64; 2]) -> c_int;
     fn setrlimit(what: c_int, limit: *const [u64; 2]) -> c_int;
     fn setsid() -> c_int;
+    fn statvfs(path: *const c_char, told: *mut [u64; 16]) -> c_int;
+    fn clock_gettime(clock: c_int, moment: *mut [i64; 2]) -> c_int;
 }
 
 fn checked<T: Default + PartialOrd>(result: T) -> io::Result<T> {
@@ -174,6 +179,23 @@ pub fn signals() -> io::Result<OwnedFd> {
     block_signals()?;
     // SAFETY: as above; -1 stands for a new file.
     owned(unsafe { signalfd(-1, &SIGNALS, CLOSED_ON_EXEC | NON_BLOCKING) })
+}
+
+/// The milliseconds since the machine began, those in which it slept among them. Where the system doesn't tell it, none will ever come.
+pub fn boot_time() -> u64 {
+    let mut moment = [0; 2];
+    // SAFETY: a moment is two numbers.
+    let told = checked(unsafe { clock_gettime(SINCE_BOOT, &mut moment) });
+    told.map_or(u64::MAX, |_| moment[0] as u64 * 1000 + moment[1] as u64 / 1_000_000)
+}
+
+/// How many bytes a user who isn't root may still write where the file of this path stands.
+pub fn free_bytes(path: &CStr) -> io::Result<u64> {
+    let mut told = [0; 16];
+    // SAFETY: the path ends with a zero, and of what is told there are 112 bytes.
+    checked(unsafe { statvfs(path.as_ptr(), &mut told) })?;
+    // How long a block is, and how many are free.
+    Ok(told[1].saturating_mul(told[4]))
 }
 
 /// Sets a limit of this process, not beyond the hardest, and tells what it is now.

@@ -5,35 +5,39 @@ use crate::options::Options;
 use crate::say;
 use std::io::{self, Write};
 
-pub struct Telling {
-    urls: Vec<String>,
-    lines: Vec<String>,
+pub struct Telling<'a> {
+    pub options: &'a Options,
+    /// How much the program may take.
+    pub memory: u64,
 }
 
-impl Telling {
-    pub fn new(options: &Options, listeners: &[Listener], memory: u64) -> Telling {
+impl Telling<'_> {
+    fn lines(&self, listeners: &[Listener]) -> Vec<String> {
         let mut lines = Vec::new();
-        if memory > 0 {
-            lines.push(format!("the program may take {} MB of memory (--memory)", memory / 1_000_000));
+        if self.memory > 0 {
+            lines.push(format!("the program may take {} MB of memory (--memory)", self.memory / 1_000_000));
         }
-        lines.extend(dangers(options, &names(listeners, Listener::is_open), &names(listeners, |it| it.is_open() && !it.speaks_tls)));
-        let elsewhere = options.proxies.elsewhere();
+        lines.extend(dangers(self.options, &names(listeners, Listener::is_open), &names(listeners, |it| it.is_open() && !it.speaks_tls)));
+        let elsewhere = self.options.proxies.elsewhere();
         if !elsewhere.is_empty() {
             lines.push(format!("whoever is at {} can say to be at any address (--proxy-protocol)", elsewhere.join(" ")));
         }
-        Telling { urls: listeners.iter().map(Listener::name).collect(), lines }
+        lines
     }
 
-    pub fn tell(&self) {
+    pub fn tell(&self, listeners: &[Listener]) {
         let mut out = io::stdout();
-        for url in &self.urls {
-            let _ = writeln!(out, "{}", url);
+        for listener in listeners {
+            let _ = writeln!(out, "{}", listener.name());
         }
         let _ = out.flush();
-        for line in &self.lines {
+        for line in self.lines(listeners) {
             say(format_args!("{}", line));
         }
-        notify("READY=1");
+        // A standby tells it itself.
+        if !self.options.lets_in_late() {
+            notify("READY=1");
+        }
     }
 }
 

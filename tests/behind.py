@@ -4,10 +4,10 @@ behind.py serve|echo SEED [DEAF [WORD..]]     DEAF: once it is ready it reads no
 
 It first tells that it is ready, with `--login` once it knows the users. Where READY_WHEN is set, it waits for a file with this path before. Where NOTES is set, it appends its words to this file as it begins, and the moment; and the moment at which it ends by `end` or `die`.
 
-With `serve` it answers lines: `get N` by N bytes, `last N` by N bytes behind which the connection is over, `wait N` by `ok` after so many milliseconds, `work N` by the same while it does nothing else, `put N` and N bytes behind it by `ok` and N, `who` by the address that was told of its client, `know` by `ok`, behind which the listener is told that a user was let in, `users` by the names of the users, and any other by
+With `serve` it answers lines: `get N` by N bytes, `last N` by N bytes behind which the connection is over, `wait N` by `ok` after so many milliseconds, `work N` by the same while it does nothing else, `put N` and N bytes behind it by `ok` and N, `who` by the address that was told of its client, `know` by `ok`, behind which the listener is told that a user was let in, `hang` by `ok`, behind which no touch has an answer, `users` by the names of the users, `free` by each number of free bytes that was told, and any other by
 `refused`, behind which the connection is over. At `end N` it ends with this status, at `die` by SIGKILL. With `echo` it sends back what comes. What it tells is cut at random, and so it asks for more. Ends with 0, and says how many connections are left that are neither over nor gone; or with 4 and a reason where a frame is wrong.
 
-With `--login` it wants the users first of all, and else it wants none. A line of theirs without a colon is wrong: its number is told, and where these are the first users it ends with 7; else those before stay.
+With `--store` it takes word of what is free on the disk once it is ready, and else it wants none. With `--lease` it first tells that it has the lock, and a lease before it of LOCKED seconds, 1 where that isn't set; it waits for `go`, and for a touch, and each touch has its answer. With `--login` it wants the users first of all, and else it wants none. A line of theirs without a colon is wrong: its number is told, and where these are the first users it ends with 7; else those before stay.
 """
 import json
 import os
@@ -60,15 +60,21 @@ class Connection:
 
 
 class Program:
-    def __init__(self, mode, seed, deaf, logs_in=False):
+    def __init__(self, mode, seed, deaf, logs_in=False, has_store=False, has_lease=False):
         self.mode, self.random, self.begun, self.asked = mode, random.Random(seed), 0, 0
         # What was told of the client that comes next; the names of the users; and whether they have to come first.
         self.address, self.users, self.logs_in = None, None, logs_in
+        self.free, self.has_store = [], has_store
+        # What is waited for next of a lease; and whether touches have an answer.
+        self.awaits, self.hangs = (b"go" if has_lease else None), False
         self.connections, self.input, self.output, self.is_open = {}, bytearray(), bytearray(), True
         # The numbers of those that something came of, or whose answer is due later.
         self.touched = set()
         self.deaf, self.is_ready = deaf, False
-        if not logs_in:
+        if has_lease:
+            self.output += b"locked %b\n" % os.environ.get("LOCKED", "1").encode()
+            self.write()
+        elif not logs_in:
             self.tell_ready()
 
     def tell_ready(self):
@@ -113,6 +119,13 @@ class Program:
             self.check(self.asked >= 0, "none")
         elif words[0] == b"users" and len(words) == 2 and len(numbers) == 1 and self.logs_in:
             self.take_users(piece)
+        elif words == [b"go"] and self.awaits == b"go":
+            note("go")
+            self.awaits = b"touch"
+        elif words == [b"touch"] and self.awaits == b"touch":
+            self.take_touch()
+        elif words[0] == b"free" and len(words) == 2 and len(numbers) == 1 and self.has_store and self.is_ready:
+            self.free.append(numbers[0])
         elif words[0] == b"from" and len(words) == 3 and words[1].isdigit():
             self.check(int(words[1]) == self.begun + 1 and 1 <= len(words[2]) <= 64 and all(33 <= byte <= 126 for byte in words[2]), f"{words}")
             self.address = words[2]
@@ -127,6 +140,14 @@ class Program:
         else:
             self.wrong(f"{words}")
 
+    def take_touch(self):
+        note("touch")
+        if not self.hangs:
+            self.output += b"touched\n"
+            note("touched")
+        if not self.is_ready:
+            self.tell_ready()
+
     def take_users(self, text):
         lines = text.splitlines()
         wrong = next((place for place, line in enumerate(lines, 1) if b":" not in line), None)
@@ -136,7 +157,7 @@ class Program:
                 os._exit(7)
         else:
             is_first, self.users = self.users is None, [line.partition(b":")[0] for line in lines]
-            if is_first:
+            if is_first and not self.awaits:
                 self.tell_ready()
 
     def take_taken(self, number, count):
@@ -204,6 +225,11 @@ class Program:
             it.is_known = True
         elif word == b"users":
             it.out += b",".join(self.users or []) + b"\n"
+        elif word == b"hang":
+            it.out += b"ok\n"
+            self.hangs = True
+        elif word == b"free":
+            it.out += b"%s\n" % b",".join(b"%d" % number for number in self.free)
         elif word == b"put":
             it.put = it.body = count
         elif word == b"end":
@@ -302,6 +328,6 @@ class Program:
 if __name__ == "__main__":
     note("begins", *sys.argv[4:])
     try:
-        Program(sys.argv[1], int(sys.argv[2]), float(sys.argv[3]) if len(sys.argv) > 3 else 0, "--login" in sys.argv[4:]).run()
+        Program(sys.argv[1], int(sys.argv[2]), float(sys.argv[3]) if len(sys.argv) > 3 else 0, "--login" in sys.argv[4:], "--store" in sys.argv[4:], "--lease" in sys.argv[4:]).run()
     except BrokenPipeError:
         os._exit(1)

@@ -3,6 +3,7 @@
 //   FAILS=NAME:N:ERRNO   the N-th call of this name fails so, counted from 1
 //   COUNTS=FILE          at its end the number of calls of each name is written there, one a line
 //
+//   HANGS=1              statvfs never comes back
 //   JUMP=FILE            from the moment at which this file is there, it is a day and an hour later
 //
 // In the programs that the listener runs it does nothing; nor to what std does of itself as the listener runs the first one, between the first pipe and the poll.
@@ -105,6 +106,16 @@ int clock_gettime(clockid_t clock, struct timespec *moment) {
     if (!told && path && !access(path, F_OK))
         moment->tv_sec += 25 * 60 * 60;
     return (int)told;
+}
+
+// As on a file system that hangs.
+int statvfs(const char *path, void *told) {
+    static int (*real)(const char *, void *);
+    if (!real)
+        real = (int (*)(const char *, void *))dlsym(RTLD_NEXT, "statvfs");
+    while (is_listener && getenv("HANGS"))
+        pause();
+    return real(path, told);
 }
 
 // A file is closed all the same.

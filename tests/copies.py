@@ -163,6 +163,10 @@ class Pipe:
         first.stdout.close()
         self.ends = [first, second]
 
+    def has_ended(self):
+        """Whether nothing is followed any more."""
+        return self.ends[0].poll() is not None
+
     def stop(self, which=0):
         """Kills one end, and then the other; what take told, and its status."""
         self.ends[which].kill()
@@ -478,3 +482,30 @@ def standby(stores, davserve):
     yield "which is a store", tell(stores.davstore, f"{copy}.before-0", "check")[0] == 0
     os.remove(copy)
     os.remove(f"{copy}.before-0")
+    yield from moved(stores, davserve, copy)
+
+
+def moved(stores, davserve, copy):
+    """A store is followed to its end: that comes once the server that writes it has ended, and then the copy has all."""
+    pipe = Pipe(stores.davstore, stores.path, copy)
+    with subprocess.Popen([davserve, "--store", stores.path], stdin=subprocess.PIPE, stdout=subprocess.PIPE, stderr=subprocess.DEVNULL) as server:
+        server.stdout.readline()
+        for words in (["--to-end"], [str(used(stores.path)), "--to-end"]):
+            pipe.start(*words)
+            server.stdin.write(frame(1, request(b"PUT /last", b"1")))
+            server.stdin.flush()
+            yield f"{words}: while a server writes it goes on", until(lambda: os.path.exists(copy) and are_same(stores.path, copy)) and not until(pipe.has_ended, 2.5)
+            pipe.stop()
+        pipe.start("--to-end")
+        server.stdin.write(frame(1, b"".join(request(b"PUT /last%d" % number, b"2") for number in range(200))) + frame(1))
+        server.stdin.close()
+        server.stdout.read()
+        yield "it ends behind the server", server.wait() == 0 and until(pipe.has_ended)
+    status, told, _ = pipe.stop()
+    yield "and the copy has all", status == 0 and told[0].startswith("taken: ") and are_same(stores.path, copy) and tell(stores.davstore, copy, "check")[0] == 0
+    run = subprocess.run([stores.davstore, stores.path, "follow", "--to-end"], capture_output=True, timeout=60, check=False)
+    with open(stores.path, "rb") as file:
+        content = file.read()
+    gate = gates_of(content)[-1]
+    yield "where nobody writes it ends at once", (run.returncode, run.stdout) == (0, content[:56] + number(56) + content[56:gate] + b"shutgate")
+    os.remove(copy)

@@ -21,8 +21,8 @@ CLOSE = b"Connection: close\r\n"
 NOTHING = b"HTTP/1.1 204 No Content\r\n" + DATED
 ENDS = {
     0: [b""],
-    1: [b"1", b"1 9\n", b"1 9\nabc", b"gone", b"taken 1 1", b"clock 1", b"from 1", b"users 9\nabc"],
-    4: [b"x\n", b"\n", b"0 0\n", b"999999 1\nx", b"gone 999999\n", b"taken 999999 1\n", b"1 1048577\n", b"gone\n", b"none 1\n", b"taken 1 999999\n", b"from 1 a\n", b"from 999999 a\n", b"users 1048577\n"],
+    1: [b"1", b"1 9\n", b"1 9\nabc", b"gone", b"taken 1 1", b"clock 1", b"free 1", b"from 1", b"users 9\nabc"],
+    4: [b"x\n", b"\n", b"0 0\n", b"999999 1\nx", b"gone 999999\n", b"taken 999999 1\n", b"1 1048577\n", b"gone\n", b"none 1\n", b"taken 1 999999\n", b"from 1 a\n", b"from 999999 a\n", b"users 1048577\n", b"free\n", b"free -1\n", b"free 1 1\n", b"free 18446744073709551616\n"],
 }
 
 
@@ -190,7 +190,7 @@ class Run:
                 self.name(sender)
                 self.send(sender)
             else:
-                self.chance.choice([self.send] * 10 + [self.take] * 4 + [self.settle] * 2 + [self.tell_clock, self.tell_users, self.flush, self.end, self.go, self.go_beyond])(sender)
+                self.chance.choice([self.send] * 10 + [self.take] * 4 + [self.settle] * 2 + [self.tell_clock, self.tell_users, self.tell_free, self.flush, self.end, self.go, self.go_beyond])(sender)
         # All that is left.
         for sender in self.senders[: self.begun]:
             if self.chance.random() < 0.7:
@@ -227,6 +227,9 @@ class Run:
         """To a server that asks nobody to log in."""
         text = self.chance.randbytes(self.chance.choice([0, 1, 100, 5000]))
         self.listener.say(b"users %d\n" % len(text) + text)
+
+    def tell_free(self, _sender):
+        self.listener.say(b"free %d\n" % self.chance.choice([0, self.chance.randrange(1 << 30), (1 << 64) - 1]))
 
     def flush(self, _sender):
         self.listener.step(0)

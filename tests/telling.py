@@ -1,4 +1,4 @@
-"""What the listener tells the program beside the bytes of clients, for tests/listener: where a client comes from, and who the users are, again on each hang-up."""
+"""What the listener tells the program beside the bytes of clients, for tests/listener: where a client comes from; who the users are, again on each hang-up; and what is free on the disk of the store."""
 import asyncio
 import os
 import signal
@@ -77,6 +77,41 @@ def places(listen, has_ipv6):
                     held.sendall(b"who\n")
                     yield "who comes by IPv4 to a socket of both", receive(held, 10) == b"127.0.0.1\n"
                     yield "and counts as such", asks(socket.AF_INET, address, b"who\n", "127.0.0.2") == b"127.0.0.2\n"
+
+
+def free_in(path):
+    told = os.statvfs(path)
+    return told.f_frsize * told.f_bavail
+
+
+def numbers(it):
+    """What the program was told is free."""
+    return [int(word) for word in it.asks(b"free\n").split(b",") if word.strip()]
+
+
+def free(listen, _):
+    """A program with a store is told what is free on its disk, once a second at most and while somebody is served; and again once it is run again."""
+    serve = [sys.executable, os.path.join(HERE, "behind.py"), "serve", "1", "0"]
+    for words in ((), ("--store",), ("--store", "/none/store")):
+        with listening(listen, program=[*serve, *words]) as it:
+            found = [numbers(it) for _ in range(20)]
+            yield f"nothing is told of {words}", found == 20 * [[]] and it.end() == 0
+    with tempfile.NamedTemporaryFile(dir="/dev/shm") as store, listening(listen, program=[*serve, "--store", store.name]) as it:
+        yield "what is free is told", until(lambda: numbers(it)[-1:] == [free_in(store.name)])
+        store.write(bytes(20_000_000))
+        store.flush()
+        yield "and told again where it is less", until(lambda: numbers(it)[-1:] == [free_in(store.name)]) and len(numbers(it)) > 1
+        before, began = len(numbers(it)), time.monotonic()
+        while (passed := time.monotonic() - began) < 2.5:
+            store.write(bytes(100_000))
+            store.flush()
+            it.asks(b"get 3\n")
+        yield "once a second at most", 2 <= len(numbers(it)) - before <= passed + 2
+        it.asks(b"end 5\n")
+        yield "a program that is run again is told it", until(lambda: len(numbers(it)) == 1) and "run again" in it.told()
+        yield "free: a clean end", it.end() == 0
+    with breaking.preloaded() as shim, listening(listen, program=[*serve, "--store", "/"], environment={"LD_PRELOAD": shim, "HANGS": "1"}) as it:
+        yield "a disk that hangs keeps nobody waiting", [it.asks(b"get 3\n") for _ in range(100)] == 100 * [pattern(3)] and numbers(it) == [] and it.end() == 0
 
 
 def is_told(it, wanted):

@@ -3,7 +3,7 @@ use Rattle.std.proofs.Common.{◌≡◌, ℕ, List, [], ◌∷◌, refl, sym, ap
 use Rattle.http.specs.declared.request.Request.{Request}
 use Rattle.http_server.specs.declared.response.Response.{Response}
 use Rattle.http_server.specs.Exchange.{Call}
-use Rattle.http_frames.specs.ConnectionEvents.{Event, Came, Rejected, Took, Gone, Answered, Told, Granted, Awaited, Ended, Clock, From, Users, Asked, Nothing, Closed}
+use Rattle.http_frames.specs.ConnectionEvents.{Event, Came, Rejected, Took, Gone, Answered, Told, Granted, Awaited, Ended, Clock, Free, From, Users, Asked, Nothing, Touched, Closed}
 use Rattle.http_frames.specs.Gate.{TakesTurn}
 use Rattle.http_frames.specs.TurnRuns.{EventDoes, EventsLead}
 use Rattle.dav_login_core.specs.declared.login.Login.{Login}
@@ -81,6 +81,11 @@ module _ {S H : Type 0} (begins : S → ℕ → S → Type 0) (answers : S → R
   front (Answered number calls) events old next new does run = turn_front number calls events old next new does run
   front (Clock moment) events old next new does run = clock_front moment events old next new does run
   front (Users file) events old next new does run = users_front file events old next new does run
+  front (Free count) events old next new does run = record {
+    inner = Free count ∷ run.inner;
+    behind = (run.inner, refl, same_door begins answers clocked listed (door_of old) (login next) events (login new) run (ap door_of does));
+    leads = (service_of next, ap service_of does, run.leads);
+  }
   front (From number address) events old next new does run = record {
     inner = From number address ∷ run.inner;
     behind = (run.inner, refl, same_door begins answers clocked listed (door_of old) (login next) events (login new) run (ap door_of does));
@@ -133,6 +138,11 @@ module _ {S H : Type 0} (begins : S → ℕ → S → Type 0) (answers : S → R
   }
   front Nothing events old next new does run = record {
     inner = Nothing ∷ run.inner;
+    behind = (run.inner, refl, same_door begins answers clocked listed (door_of old) (login next) events (login new) run (ap door_of does));
+    leads = (service_of next, ap service_of does, run.leads);
+  }
+  front Touched events old next new does run = record {
+    inner = Touched ∷ run.inner;
     behind = (run.inner, refl, same_door begins answers clocked listed (door_of old) (login next) events (login new) run (ap door_of does));
     leads = (service_of next, ap service_of does, run.leads);
   }

@@ -4,7 +4,7 @@ use Rattle.std.proofs.lemmas.Bool.{eq-eqb, ne_eqb}
 use Rattle.std.proofs.lemmas.Bool.Decides.{eqb_tells}
 use Rattle.std.proofs.lemmas.List.Elements.{All-head, All-tail}
 use Rattle.std.proofs.lemmas.List.Sums.{fold_push}
-use Rattle.http_frames.specs.ConnectionEvents.{Event, Account, Place, Going, Left, Stopped, Over, Came, Rejected, Took, Gone, Answered, Told, Granted, Awaited, Ended, Clock, From, Users, Asked, Nothing, Closed, is_general, number_of, new_account, add_going, add_at, add_event, account, IsOfBegun}
+use Rattle.http_frames.specs.ConnectionEvents.{Event, Account, Place, Going, Left, Stopped, Over, Came, Rejected, Took, Gone, Answered, Told, Granted, Awaited, Ended, Clock, Free, From, Users, Asked, Nothing, Touched, Closed, is_general, number_of, new_account, add_going, add_at, add_event, account, IsOfBegun}
 
 cases : (b : Bool) → (b ≡ true) ⊎ (b ≡ false)
 cases true = inl refl
@@ -23,10 +23,12 @@ account-other n es e other =
 -- what happens to no connection in particular has no number, and leaves one that goes on
 general : (e : Event) → is_general e ≡ true → (number_of e ≡ 0) × ((a : Account) → add_going a e ≡ a)
 general (Clock moment) is = (refl, λ a. refl)
+general (Free count) is = (refl, λ a. refl)
 general (From n address) is = (refl, λ a. refl)
 general (Users file) is = (refl, λ a. refl)
 general Asked is = (refl, λ a. refl)
 general Nothing is = (refl, λ a. refl)
+general Touched is = (refl, λ a. refl)
 general Closed is = (refl, λ a. refl)
 general (Came n bytes) is = cc
 general (Rejected n bytes) is = cc

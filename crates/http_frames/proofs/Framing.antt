@@ -1,5 +1,5 @@
 -- What happens by a frame.
-use Rattle.std.proofs.Common.{◌≡◌, ◌⊎◌, ◌↔◌, ℕ, ◌+◌, ◌<◌, ◌≤◌, Bool, true, false, List, [], ◌∷◌, All, Option, Some, IfSome, IsTrue, Result, Ok, Err, IfOk, OnErr, refl, sym, ◌∙◌, subst, append-nil, true≢false, inl, inr}
+use Rattle.std.proofs.Common.{◌≡◌, ◌⊎◌, ◌↔◌, ℕ, ◌+◌, ◌<◌, ◌≤◌, Bool, true, false, List, [], ◌∷◌, All, Option, Some, IfSome, IsTrue, Result, Ok, Err, IfOk, OnErr, codes, refl, sym, ◌∙◌, subst, append-nil, true≢false, inl, inr}
 use Rattle.std.proofs.KnownBytes.{Appends-nil}
 use Rattle.std.proofs.lemmas.List.Elements.{All-cons, All-nil}
 use Rattle.std.specs.Io.KnownBytes.{Appends}
@@ -10,13 +10,13 @@ use Rattle.http_frames.specs.declared.held.Held.{Held}
 use Rattle.http_frames.specs.declared.frames.Head.{Head}
 use Rattle.http_frames.specs.declared.frames.Head.TheVariants as head
 use Rattle.http_frames.specs.Clients.{Adds, Joins, StaysSo, Takes, asked_of, count_begun, config_of, held_at, queue_of, window_of}
-use Rattle.http_frames.specs.ConnectionEvents.{Event, Came, Rejected, Took, Gone, Clock, From, Users, Nothing, IsNoTick, IsNumber, event_text}
+use Rattle.http_frames.specs.ConnectionEvents.{Event, Came, Rejected, Took, Gone, Clock, Free, From, Users, Nothing, Touched, IsNoTick, IsNumber, event_text}
 use Rattle.http_frames.specs.Frames.{BreaksOff, IsFrame}
 use Rattle.http_frames.specs.TurnRuns.{BreaksTold, EventDoes, InOrder, IsSaid, TellsAll, turn_in, turns_of, windows_after}
 use Rattle.http_frames.specs.FrameSteps.{BreaksUnturned, IsWrongFor, TakesFrame}
 use Rattle.http_frames.proofs.Ends.{taken_wrong, unasked}
 use Rattle.http_frames.proofs.Happenings.{one_leads, one_said, told_leads, told_no_tick, told_said, told_turns}
-use Rattle.http_frames.proofs.Moments.{clock_one, joined, joins_line, one, same_line, still, users_one}
+use Rattle.http_frames.proofs.Moments.{clock_one, free_one, joined, none as no_moments, touched_one, joins_line, one, same_line, still, users_one}
 
 one_no_tick : (e : Event) → IsNoTick e → All IsNoTick (e ∷ [])
 one_no_tick e no_tick = All-cons IsNoTick e [] no_tick (All-nil IsNoTick)
@@ -91,6 +91,31 @@ module _ {S : Type 0} (begins : S → ℕ → S → Type 0) (answers : S → Req
   clock_frame h m bytes c s s' held is word =
       subst (λ (h : Option Head). TakesFrame begins answers clocked listed true h bytes c c s s' held held) (sym is)
       (λ text frame. (Clock m ∷ [], clock_one c m, one_leads begins answers clocked listed (Clock m) s s' word, one_said (Clock m) text frame, Appends-nil held, refl, inl tt))
+
+  -- ---- what is free on the disk
+
+  pub free_frame : (h : Option Head) (n : ℕ) (bytes : List ℕ) (c : Clients) (s : S) (held : Option (List ℕ)) → h ≡ Some (head.Free n) → TakesFrame begins answers clocked listed true h bytes c c s s held held
+  free_frame h n bytes c s held is =
+      subst (λ (h : Option Head). TakesFrame begins answers clocked listed true h bytes c c s s held held) (sym is)
+      (λ text frame. (Free n ∷ [], free_one c n, one_leads begins answers clocked listed (Free n) s s refl, one_said (Free n) text frame, Appends-nil held, refl, inr (one_no_tick (Free n) tt)))
+
+  -- ---- whether the file may still be written
+
+  pub touch_frame : (h : Option Head) (bytes : List ℕ) (c : Clients) (s : S) (held holds : Option (List ℕ)) → h ≡ Some head.Touch → Appends held holds (codes "touched\n") → TakesFrame begins answers clocked listed true h bytes c c s s held holds
+  touch_frame h bytes c s held holds is wrote =
+      subst (λ (h : Option Head). TakesFrame begins answers clocked listed true h bytes c c s s held holds) (sym is)
+      (λ text frame. (
+        Touched ∷ [],
+        touched_one c,
+        one_leads begins answers clocked listed Touched s s refl,
+        one_said Touched text frame,
+        rw (append-nil (event_text Touched)) wrote,
+        refl,
+        inr (one_no_tick Touched tt),
+      ))
+
+  pub touch_breaks : (c : Clients) (s : S) (held holds : Option (List ℕ)) → BreaksOff held holds → BreaksUnturned begins answers clocked listed c c s s held holds
+  touch_breaks c s held holds off = ([], no_moments c, refl, (held, Appends-nil held, off), refl, All-nil IsNoTick)
 
   -- ---- the users
 

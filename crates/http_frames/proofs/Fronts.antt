@@ -60,7 +60,10 @@ pub wait_off : (n : ℕ) (part : Bool) (count : ℕ) (held holds : Option (List 
 wait_off n part count held holds x = (wait_text n part count, inr (inr (inl (n, part, count, refl))), x)
 
 pub more_off : (held holds : Option (List ℕ)) → AppendsFront (codes "more\n") held holds → BreaksOff held holds
-more_off held holds x = (codes "more\n", inr (inr (inr refl)), x)
+more_off held holds x = (codes "more\n", inr (inr (inr (inl refl))), x)
+
+pub touched_off : (held holds : Option (List ℕ)) → AppendsFront (codes "touched\n") held holds → BreaksOff held holds
+touched_off held holds x = (codes "touched\n", inr (inr (inr (inr refl))), x)
 
 -- a grant is its one line
 pub grant_is : (n count : ℕ) (line : List ℕ) → line ≡ codes "grant " ++ decimal n ++ 32 ∷ (decimal count ++ 10 ∷ []) → line ≡ grant_text n count

@@ -7,7 +7,7 @@ use Rattle.std.specs.Io.KnownBytes.{Appends}
 use Rattle.http.specs.declared.request.Request.{Request}
 use Rattle.http_server.specs.declared.response.Response.{Response}
 use Rattle.http_frames.specs.declared.clients.Windows.{Windows}
-use Rattle.http_frames.specs.ConnectionEvents.{Event, Came, Rejected, Took, Gone, Answered, Told, Granted, Awaited, Ended, Clock, From, Users, Asked, Nothing, Closed, IsNoTick, IsOut, event_text}
+use Rattle.http_frames.specs.ConnectionEvents.{Event, Came, Rejected, Took, Gone, Answered, Told, Granted, Awaited, Ended, Clock, Free, From, Users, Asked, Nothing, Touched, Closed, IsNoTick, IsOut, event_text}
 use Rattle.http_frames.specs.TurnRuns.{AreSaid, EventDoes, InOrder, IsSaid, EventsLead, WritesUpTo, told_text, turn_in, turns_of, windows_after}
 
 -- ---- the windows
@@ -74,10 +74,12 @@ telling closed (Took n count) out = absurd out
 telling closed (Gone n) out = absurd out
 telling closed (Answered n calls) out = absurd out
 telling closed (Clock moment) out = absurd out
+telling closed (Free count) out = absurd out
 telling closed (From n address) out = absurd out
 telling closed (Users file) out = absurd out
 telling closed Asked out = absurd out
 telling closed Nothing out = absurd out
+telling closed Touched out = absurd out
 telling closed Closed out = absurd out
 
 pub told_said : (es : List Event) → All (IsOut false) es → AreSaid es []
@@ -105,10 +107,12 @@ module _ {S : Type 0} (begins : S → ℕ → S → Type 0) (answers : S → Req
   told_does (Gone n) s out = refl
   told_does (Answered n calls) s out = absurd out
   told_does (Clock moment) s out = absurd out
+  told_does (Free count) s out = refl
   told_does (From n address) s out = refl
   told_does (Users file) s out = absurd out
   told_does Asked s out = refl
   told_does Nothing s out = refl
+  told_does Touched s out = refl
   told_does Closed s out = refl
 
   -- nothing is done to the service meanwhile

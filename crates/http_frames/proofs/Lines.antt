@@ -4,7 +4,7 @@ use Rattle.std.proofs.lemmas.List.{get_or-take, take_more}
 use Rattle.std.proofs.lemmas.List.Elements.{All-from_get_or}
 use Rattle.memchr.specs.Find.{IsFirstByte, is_byte}
 use Rattle.http_frames.specs.declared.frames.Head.{Head}
-use Rattle.http_frames.specs.declared.frames.Head.TheVariants.{Piece, Taken, Gone, Clock, From, Users, Nothing}
+use Rattle.http_frames.specs.declared.frames.Head.TheVariants.{Piece, Taken, Gone, Clock, Free, From, Users, Nothing, Touch, Go}
 use Rattle.http_frames.specs.Frames.{IsLine, IsFrame, IsPart, frame_bytes, head, more_in}
 
 -- no line has come whole
@@ -46,6 +46,7 @@ framed (Some (Piece n l)) bytes k m line says is within =
 framed (Some (Taken n l)) bytes k m line says is within = (take k bytes, bare bytes k m line is, says)
 framed (Some (Gone n)) bytes k m line says is within = (take k bytes, bare bytes k m line is, says)
 framed (Some (Clock n)) bytes k m line says is within = (take k bytes, bare bytes k m line is, says)
+framed (Some (Free n)) bytes k m line says is within = (take k bytes, bare bytes k m line is, says)
 framed (Some (From n)) bytes k m line says is within = (take k bytes, bare bytes k m line is, says, refl)
 framed (Some (Users l)) bytes k m line says is within =
     let behind = take ((k + 1 + m) - (k + 1)) (drop (k + 1) bytes) in
@@ -58,6 +59,8 @@ framed (Some (Users l)) bytes k m line says is within =
       text_is = take-add (k + 1) m bytes ∙ ap (λ (j : ℕ). take (k + 1) bytes ++ take j (drop (k + 1) bytes)) (omega arith);
     }
 framed (Some Nothing) bytes k m line says is within = (take k bytes, bare bytes k m line is, says)
+framed (Some Touch) bytes k m line says is within = (take k bytes, bare bytes k m line is, says)
+framed (Some Go) bytes k m line says is within = (take k bytes, bare bytes k m line is, says)
 
 -- not all bytes that follow it have come
 pub cut : (h : Option Head) (bytes : List ℕ) (k m : ℕ) → IsLine (take k bytes) (take (k + 1) bytes) → head (take k bytes) ≡ h → m ≡ more_in h → length bytes - (k + 1) < m → IsPart bytes

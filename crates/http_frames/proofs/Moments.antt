@@ -5,7 +5,7 @@ use Rattle.std.proofs.lemmas.Grind.{flat_map-append}
 use Rattle.http_frames.specs.declared.clients.Clients.{Clients}
 use Rattle.http_frames.specs.declared.clients.Windows.{Windows}
 use Rattle.http_frames.specs.Clients.{Adds, Alone, Has, Joins, StaysSo, count_begun, config_of, queue_of, window_of}
-use Rattle.http_frames.specs.ConnectionEvents.{Event, Clock, Users, account}
+use Rattle.http_frames.specs.ConnectionEvents.{Event, Clock, Free, Touched, Users, account}
 use Rattle.http_frames.specs.TurnRuns.{AtMoment, InOrder, Moments, turn_in, turns_of, windows_after}
 use Rattle.http_frames.proofs.Accounts.{account-none, account-zero}
 use Rattle.http_frames.proofs.Beginning.{new_alone}
@@ -85,6 +85,14 @@ one c c' e adds line config window = record {
 -- word of the moment
 pub clock_one : (c : Clients) (m : ℕ) → Moments (Clock m ∷ []) c c
 clock_one c m = one c c (Clock m) (word_then c c (Clock m) refl (λ b. refl) (all_alike c)) ([], sym (append-nil (queue_of c))) refl refl
+
+-- word of what is free on the disk
+pub free_one : (c : Clients) (count : ℕ) → Moments (Free count ∷ []) c c
+free_one c count = one c c (Free count) (word_then c c (Free count) refl (λ b. refl) (all_alike c)) ([], sym (append-nil (queue_of c))) refl refl
+
+-- a touch
+pub touched_one : (c : Clients) → Moments (Touched ∷ []) c c
+touched_one c = one c c Touched (word_then c c Touched refl (λ b. refl) (all_alike c)) ([], sym (append-nil (queue_of c))) refl refl
 
 -- word of the users
 pub users_one : (c : Clients) (file : List ℕ) → Moments (Users file ∷ []) c c

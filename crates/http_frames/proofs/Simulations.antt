@@ -5,7 +5,7 @@ use Rattle.http_server.specs.declared.response.Response.{Response}
 use Rattle.http_server.specs.Exchange.{Call, Chain}
 use Rattle.http_frames.specs.declared.clients.Clients.{Clients}
 use Rattle.http_frames.specs.declared.serving.End.{End}
-use Rattle.http_frames.specs.ConnectionEvents.{Event, Came, Rejected, Took, Gone, Answered, Told, Granted, Awaited, Ended, Clock, From, Users, Asked, Nothing, Closed}
+use Rattle.http_frames.specs.ConnectionEvents.{Event, Came, Rejected, Took, Gone, Answered, Told, Granted, Awaited, Ended, Clock, Free, From, Users, Asked, Nothing, Touched, Closed}
 use Rattle.http_frames.specs.Clients.{GivesTurn}
 use Rattle.http_frames.specs.Gate.{BeginsWithin, TakesTurn}
 use Rattle.http_frames.specs.TurnRuns.{RunsInTurns, EventDoes, EventsLead}
@@ -26,6 +26,7 @@ module _ {S T : Type 0} (f : S → T) (begins : S → ℕ → S → Type 0) (ans
   pub does_to : (e : Event) (s s' : S) → EventDoes begins answers clocked listed e s s' → EventDoes begins' answers' clocked' listed' e (f s) (f s')
   does_to (Answered n calls) s s' x = turn_to n calls s s' x
   does_to (Clock moment) s s' x = clocked_to s moment s' x
+  does_to (Free count) s s' x = ap f x
   does_to (From n address) s s' x = ap f x
   does_to (Users file) s s' x = listed_to s file s' x
   does_to (Came n bytes) s s' x = ap f x
@@ -38,6 +39,7 @@ module _ {S T : Type 0} (f : S → T) (begins : S → ℕ → S → Type 0) (ans
   does_to (Ended n) s s' x = ap f x
   does_to Asked s s' x = ap f x
   does_to Nothing s s' x = ap f x
+  does_to Touched s s' x = ap f x
   does_to Closed s s' x = ap f x
 
   pub leads_to : (es : List Event) (s s' : S) → EventsLead begins answers clocked listed s es s' → EventsLead begins' answers' clocked' listed' (f s) es (f s')

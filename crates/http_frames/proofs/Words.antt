@@ -16,7 +16,7 @@ use Rattle.std.specs.Str.Parse.{digits_value}
 use Rattle.line_streams.proofs.Numerals.{no_digits}
 use Rattle.line_streams.specs.Numerals.{numeral}
 use Rattle.http_frames.specs.declared.frames.Head.{Head}
-use Rattle.http_frames.specs.Frames.{is_single_space, is_address, is_address_byte, gone_in, clock_in, from_by, from_in, taken_by, taken_in, piece_in, users_head, other_head_of, head_of, head}
+use Rattle.http_frames.specs.Frames.{is_single_space, is_address, is_address_byte, gone_in, clock_in, free_in, from_by, from_in, taken_by, taken_in, piece_in, users_head, one_word, other_head_of, head_of, head}
 
 abbrev Low : List ℕ → Type 0
 Low bytes = All (λ b. b < 128) bytes
@@ -82,6 +82,10 @@ clock_low : (rest : List ℕ) (n : Option ℕ) (h : Head) → numeral rest ≡ n
 clock_low rest None h is says = cc
 clock_low rest (Some n) h is says = number_low rest (Some n) n is refl
 
+free_low : (rest : List ℕ) (n : Option ℕ) (h : Head) → numeral rest ≡ n → free_in n ≡ Some h → Low rest
+free_low rest None h is says = cc
+free_low rest (Some n) h is says = number_low rest (Some n) n is refl
+
 behind_and : (x y : Bool) → (x && y) ≡ true → y ≡ true
 behind_and true y is = is
 behind_and false y is = cc
@@ -103,11 +107,13 @@ users_low : (rest : List ℕ) (n : Option ℕ) (h : Head) → numeral rest ≡ n
 users_low rest None h is says = cc
 users_low rest (Some n) h is says = number_low rest (Some n) n is refl
 
-others_low-by : (word rest : List ℕ) (h : Head) (from users : Bool) → bytes_eq word (codes "from") ≡ from → bytes_eq word (codes "users") ≡ users → other_head_of word rest ≡ Some h → Low word × Low rest
-others_low-by word rest h true users is was says =
-    (word_low word (codes "from") refl is, from_low-by rest (numeral (before_first is_single_space rest)) h (is_address (after_first is_single_space rest)) refl refl (rw is at says))
-others_low-by word rest h false true is was says = (word_low word (codes "users") refl was, users_low rest (numeral rest) h refl (rw (is, was) at says))
-others_low-by word rest h false false is was says = piece_low word rest (numeral word) (numeral rest) h refl refl (rw (is, was) at says)
+others_low-by : (word rest : List ℕ) (h : Head) (free from users : Bool) → bytes_eq word (codes "free") ≡ free → bytes_eq word (codes "from") ≡ from → bytes_eq word (codes "users") ≡ users
+    → other_head_of word rest ≡ Some h → Low word × Low rest
+others_low-by word rest h true from users is was now says = (word_low word (codes "free") refl is, free_low rest (numeral rest) h refl (rw is at says))
+others_low-by word rest h false true users is was now says =
+    (word_low word (codes "from") refl was, from_low-by rest (numeral (before_first is_single_space rest)) h (is_address (after_first is_single_space rest)) refl refl (rw (is, was) at says))
+others_low-by word rest h false false true is was now says = (word_low word (codes "users") refl now, users_low rest (numeral rest) h refl (rw (is, was, now) at says))
+others_low-by word rest h false false false is was now says = piece_low word rest (numeral word) (numeral rest) h refl refl (rw (is, was, now) at says)
 
 words_low-by : (word rest : List ℕ) (h : Head) (gone taken clock : Bool) → bytes_eq word (codes "gone") ≡ gone → bytes_eq word (codes "taken") ≡ taken → bytes_eq word (codes "clock") ≡ clock
     → head_of word rest ≡ Some h → Low word × Low rest
@@ -115,17 +121,23 @@ words_low-by word rest h true taken clock is was now says = (word_low word (code
 words_low-by word rest h false true clock is was now says =
     (word_low word (codes "taken") refl was, taken_low rest (numeral (before_first is_single_space rest)) (numeral (after_first is_single_space rest)) h refl refl (rw (is, was) at says))
 words_low-by word rest h false false true is was now says = (word_low word (codes "clock") refl now, clock_low rest (numeral rest) h refl (rw (is, was, now) at says))
-words_low-by word rest h false false false is was now says = others_low-by word rest h (bytes_eq word (codes "from")) (bytes_eq word (codes "users")) refl refl (rw (is, was, now) at says)
+words_low-by word rest h false false false is was now says = others_low-by word rest h (bytes_eq word (codes "free")) (bytes_eq word (codes "from")) (bytes_eq word (codes "users")) refl refl refl (rw (is, was, now) at says)
 
-line_low-by : (line : List ℕ) (h : Head) (none : Bool) → bytes_eq line (codes "none") ≡ none → head line ≡ Some h → Low line
-line_low-by line h true is says = word_low line (codes "none") refl is
-line_low-by line h false is says =
+one_word_low : (line : List ℕ) (h : Head) (none touch go : Bool) → bytes_eq line (codes "none") ≡ none → bytes_eq line (codes "touch") ≡ touch → bytes_eq line (codes "go") ≡ go → one_word line ≡ Some h → Low line
+one_word_low line h true touch go is was now says = word_low line (codes "none") refl is
+one_word_low line h false true go is was now says = word_low line (codes "touch") refl was
+one_word_low line h false false true is was now says = word_low line (codes "go") refl now
+one_word_low line h false false false is was now says = let none = rw (is, was, now) at says in cc
+
+line_low-by : (line : List ℕ) (h : Head) (word : Option Head) → one_word line ≡ word → head line ≡ Some h → Low line
+line_low-by line h (Some w) is says = one_word_low line w (bytes_eq line (codes "none")) (bytes_eq line (codes "touch")) (bytes_eq line (codes "go")) refl refl refl is
+line_low-by line h None is says =
     let word = before_first is_single_space line in
     let x = words_low-by word (after_first is_single_space line) h (bytes_eq word (codes "gone")) (bytes_eq word (codes "taken")) (bytes_eq word (codes "clock")) refl refl refl (rw is at says) in
     around line x.0 x.1
 
 words_low : (line : List ℕ) (h : Head) → head line ≡ Some h → Low line
-words_low line h is = line_low-by line h (bytes_eq line (codes "none")) refl is
+words_low line h is = line_low-by line h (one_word line) refl is
 
 head_is_text : (line : List ℕ) (h : Head) → head line ≡ Some h → IsUtf8 line
 head_is_text line h is = IsUtf8-from_ascii line (IsAscii-from_all line (words_low line h is))
@@ -164,23 +176,24 @@ piece_in_none : (n : Option ℕ) → piece_in n None ≡ None
 piece_in_none None = refl
 piece_in_none (Some n) = refl
 
-other_head_of_none : (word : List ℕ) (from users : Bool) → bytes_eq word (codes "from") ≡ from → bytes_eq word (codes "users") ≡ users → other_head_of word [] ≡ None
-other_head_of_none word true users is was = rw is (no_address [] refl)
-other_head_of_none word false true is was = rw (is, was, numeral_none) refl
-other_head_of_none word false false is was = rw (is, was, numeral_none) (piece_in_none (numeral word))
+other_head_of_none : (word : List ℕ) (free from users : Bool) → bytes_eq word (codes "free") ≡ free → bytes_eq word (codes "from") ≡ from → bytes_eq word (codes "users") ≡ users → other_head_of word [] ≡ None
+other_head_of_none word true from users is was now = rw (is, numeral_none) refl
+other_head_of_none word false true users is was now = rw (is, was) (no_address [] refl)
+other_head_of_none word false false true is was now = rw (is, was, now, numeral_none) refl
+other_head_of_none word false false false is was now = rw (is, was, now, numeral_none) (piece_in_none (numeral word))
 
 head_of_none : (word : List ℕ) (gone taken clock : Bool) → bytes_eq word (codes "gone") ≡ gone → bytes_eq word (codes "taken") ≡ taken → bytes_eq word (codes "clock") ≡ clock → head_of word [] ≡ None
 head_of_none word true taken clock is was now = rw (is, numeral_none) refl
 head_of_none word false true clock is was now = rw (is, was) (no_second [] refl)
 head_of_none word false false true is was now = rw (is, was, now, numeral_none) refl
-head_of_none word false false false is was now = rw (is, was, now) (other_head_of_none word (bytes_eq word (codes "from")) (bytes_eq word (codes "users")) refl refl)
+head_of_none word false false false is was now = rw (is, was, now) (other_head_of_none word (bytes_eq word (codes "free")) (bytes_eq word (codes "from")) (bytes_eq word (codes "users")) refl refl refl)
 
--- a line that is not the one word is read by its first word and what stands behind it
-pub two_words : (line : List ℕ) → bytes_eq line (codes "none") ≡ false → head line ≡ head_of (before_first is_single_space line) (after_first is_single_space line)
+-- a line that is not one of the words is read by its first word and what stands behind it
+pub two_words : (line : List ℕ) → one_word line ≡ None → head line ≡ head_of (before_first is_single_space line) (after_first is_single_space line)
 two_words line not_none = rw not_none refl
 
--- a line without a blank is no head but for the one word
-pub no_blank : (line : List ℕ) → bytes_eq line (codes "none") ≡ false → position_or_len is_single_space line ≡ length line → head line ≡ None
+-- a line without a blank is no head but for these words
+pub no_blank : (line : List ℕ) → one_word line ≡ None → position_or_len is_single_space line ≡ length line → head line ≡ None
 no_blank line not_none is =
     let none : after_first is_single_space line ≡ [] = drop_of_length-le line {i = position_or_len is_single_space line + 1} (omega (arith, is)) in
     let word = before_first is_single_space line in

@@ -26,6 +26,8 @@ pub data Event : Type 0 where
   Ended : ℕ → Event
   -- a frame told the moment
   Clock : ℕ → Event
+  -- a frame told how many bytes are free on the disk
+  Free : ℕ → Event
   -- a frame told the address of the client of the connection that begins next, whose number it is
   From : ℕ → List ℕ → Event
   -- a frame told who the users are, as the text of a file
@@ -33,6 +35,8 @@ pub data Event : Type 0 where
   -- `more` was asked, and the answer came that there is nothing
   Asked : Event
   Nothing : Event
+  -- a frame asked whether the file may still be written, and it was told that it was
+  Touched : Event
   -- the input ended
   Closed : Event
 
@@ -48,10 +52,12 @@ number_of (Granted number count) = number
 number_of (Awaited number part count) = number
 number_of (Ended number) = number
 number_of (Clock moment) = 0
+number_of (Free count) = 0
 number_of (From number address) = 0
 number_of (Users text) = 0
 number_of Asked = 0
 number_of Nothing = 0
+number_of Touched = 0
 number_of Closed = 0
 
 -- a number of one of the connections that have begun
@@ -61,10 +67,12 @@ IsNumber count number = (0 < number) × (number ≤ count)
 -- it happened to no connection in particular
 abbrev pub is_general : Event → Bool
 is_general (Clock moment) = true
+is_general (Free count) = true
 is_general (From number address) = true
 is_general (Users text) = true
 is_general Asked = true
 is_general Nothing = true
+is_general Touched = true
 is_general Closed = true
 is_general _ = false
 
@@ -93,6 +101,7 @@ event_text (Granted number count) = grant_text number count
 event_text (Awaited number part count) = wait_text number part count
 event_text (Ended number) = piece_text number []
 event_text Asked = codes "more\n"
+event_text Touched = codes "touched\n"
 event_text _ = []
 
 -- whether `more` was asked, and its answer is to come

@@ -7,7 +7,7 @@ use Rattle.std.specs.Str.{bytes_eq}
 use Rattle.line_streams.specs.Numerals.{numeral}
 use Rattle.http_frames.specs.declared.frames.Frames.{Frames}
 use Rattle.http_frames.specs.declared.frames.Head.{Head}
-use Rattle.http_frames.specs.declared.frames.Head.TheVariants.{Piece, Taken, Gone, Clock, From, Users, Nothing}
+use Rattle.http_frames.specs.declared.frames.Head.TheVariants.{Piece, Taken, Gone, Clock, Free, From, Users, Nothing, Touch, Go}
 
 -- ---- the head of a frame: words with one blank between them
 
@@ -21,6 +21,10 @@ gone_in (Some number) = Some (Gone number)
 abbrev pub clock_in : Option ℕ → Option Head
 clock_in None = None
 clock_in (Some moment) = Some (Clock moment)
+
+abbrev pub free_in : Option ℕ → Option Head
+free_in None = None
+free_in (Some bytes) = Some (Free bytes)
 
 abbrev pub taken_by : Option ℕ → Option ℕ → Option Head
 taken_by None count = None
@@ -64,8 +68,9 @@ users_head (Some length) = if nat_lt 1_048_576 length then None else Some (Users
 -- where the first word is none of `gone`, `taken` and `clock`
 abbrev pub other_head_of : List ℕ → List ℕ → Option Head
 other_head_of word rest =
-    if bytes_eq word (codes "from") then from_in rest
-    else (if bytes_eq word (codes "users") then users_head (numeral rest) else piece_in (numeral word) (numeral rest))
+    if bytes_eq word (codes "free") then free_in (numeral rest)
+    else (if bytes_eq word (codes "from") then from_in rest
+    else (if bytes_eq word (codes "users") then users_head (numeral rest) else piece_in (numeral word) (numeral rest)))
 
 -- by the first word and what stands behind it
 abbrev pub head_of : List ℕ → List ℕ → Option Head
@@ -74,9 +79,20 @@ head_of word rest =
     else (if bytes_eq word (codes "taken") then taken_in rest
     else (if bytes_eq word (codes "clock") then clock_in (numeral rest) else other_head_of word rest))
 
+-- a line that is one word
+abbrev pub one_word : List ℕ → Option Head
+one_word line =
+    if bytes_eq line (codes "none") then Some Nothing
+    else (if bytes_eq line (codes "touch") then Some Touch else (if bytes_eq line (codes "go") then Some Go else None))
+
+-- by the word that is the line, or else by its words
+abbrev pub head_by : Option Head → List ℕ → Option Head
+head_by (Some h) line = Some h
+head_by None line = head_of (before_first is_single_space line) (after_first is_single_space line)
+
 -- what a line says, without its end
 abbrev pub head : List ℕ → Option Head
-head line = if bytes_eq line (codes "none") then Some Nothing else head_of (before_first is_single_space line) (after_first is_single_space line)
+head line = head_by (one_word line) line
 
 -- how many bytes follow the line
 abbrev pub more_in : Option Head → ℕ
@@ -132,9 +148,12 @@ IsFrame (Some (Piece number length)) bytes text = IsPiece number bytes text
 IsFrame (Some (Taken number count)) bytes text = Says (Taken number count) text
 IsFrame (Some (Gone number)) bytes text = Says (Gone number) text
 IsFrame (Some (Clock moment)) bytes text = Says (Clock moment) text
+IsFrame (Some (Free count)) bytes text = Says (Free count) text
 IsFrame (Some (From number)) bytes text = TellsAddress number bytes text
 IsFrame (Some (Users length)) bytes text = TellsUsers bytes text
 IsFrame (Some Nothing) bytes text = Says Nothing text
+IsFrame (Some Touch) bytes text = Says Touch text
+IsFrame (Some Go) bytes text = Says Go text
 
 -- no frame has come whole: its line has no end yet, or its bytes are not all there
 abbrev pub IsPart : List ℕ → Type 0
@@ -175,7 +194,7 @@ wait_text number false count = codes "rests " ++ decimal number ++ codes " " ++ 
 abbrev pub IsFrameOut : List ℕ → Type 0
 IsFrameOut text =
     ((number : ℕ) × (bytes : List ℕ) × (text ≡ piece_text number bytes)) ⊎ (((number : ℕ) × (count : ℕ) × (text ≡ grant_text number count))
-    ⊎ (((number : ℕ) × (part : Bool) × (count : ℕ) × (text ≡ wait_text number part count)) ⊎ (text ≡ codes "more\n")))
+    ⊎ (((number : ℕ) × (part : Bool) × (count : ℕ) × (text ≡ wait_text number part count)) ⊎ ((text ≡ codes "more\n") ⊎ (text ≡ codes "touched\n"))))
 
 -- a front of one frame was written
 abbrev pub BreaksOff : Option (List ℕ) → Option (List ℕ) → Type 0

@@ -11,7 +11,7 @@ use Rattle.http_frames.specs.declared.frames.Head.TheVariants as head
 use Rattle.http_frames.specs.declared.serving.End.{End}
 use Rattle.http_frames.specs.declared.serving.End.TheVariants.{Whole, Wrong, Cut}
 use Rattle.http_frames.specs.Clients.{Has, count_begun, config_of, window_of, queue_of}
-use Rattle.http_frames.specs.ConnectionEvents.{Event, Came, Rejected, Took, Gone, Answered, Clock, From, Users, Nothing, Going, IsNumber, IsOut, account, awaits, closing, event_text}
+use Rattle.http_frames.specs.ConnectionEvents.{Event, Came, Rejected, Took, Gone, Answered, Clock, Free, From, Users, Nothing, Touched, Going, IsNumber, IsOut, account, awaits, closing, event_text}
 use Rattle.http_frames.specs.Frames.{BreaksOff, IsFrame, TellsAddress, IsPart, IsPiece, TellsUsers, Says}
 use Rattle.http_frames.specs.Gate.{TakesTurn}
 
@@ -44,9 +44,11 @@ IsSaid (Rejected number bytes) text = IsPiece number bytes text
 IsSaid (Took number count) text = Says (head.Taken number count) text
 IsSaid (Gone number) text = Says (head.Gone number) text
 IsSaid (Clock moment) text = Says (head.Clock moment) text
+IsSaid (Free count) text = Says (head.Free count) text
 IsSaid (From number address) text = TellsAddress number address text
 IsSaid (Users file) text = TellsUsers file text
 IsSaid Nothing text = Says head.Nothing text
+IsSaid Touched text = Says head.Touch text
 IsSaid _ text = text ≡ []
 
 abbrev pub AreSaid : List Event → List ℕ → Type 0
@@ -114,7 +116,7 @@ module _ {S : Type 0} (begins : S → ℕ → S → Type 0) (answers : S → Req
   Breaks c c' s s' output output' = (more : List Event) × Moments more c c' × EventsLead s more s' × WritesUpTo more output output'
 
 -- A frame is wrong, after these events: its line is no head; or its number is neither that of a connection that has begun nor, where bytes come, the next; or it tells an address,
--- and its number is not the next; or more was taken than was handed out; or it answers what nobody asked.
+-- and its number is not the next; or more was taken than was handed out; or it answers what nobody asked, as `go` does here.
 abbrev pub IsWrong : ℕ → List Event → Option Head → Type 0
 IsWrong count events None = Unit {0}
 IsWrong count events (Some (head.Piece number length)) = ¬ ((0 < number) × (number ≤ count + 1))
@@ -122,9 +124,12 @@ IsWrong count events (Some (head.Taken number taken)) =
     ¬ (IsNumber count number) ⊎ (((account number events).place ≡ Going) × (length (account number events).went < (account number events).took + taken))
 IsWrong count events (Some (head.Gone number)) = ¬ (IsNumber count number)
 IsWrong count events (Some (head.Clock moment)) = ⊥
+IsWrong count events (Some (head.Free bytes)) = ⊥
 IsWrong count events (Some (head.From number)) = number ≢ count + 1
 IsWrong count events (Some (head.Users length)) = ⊥
 IsWrong count events (Some head.Nothing) = awaits events ≡ false
+IsWrong count events (Some head.Touch) = ⊥
+IsWrong count events (Some head.Go) = Unit {0}
 
 -- what stands where no more frames are served, after these events: nothing; a frame that is wrong; or a part of one
 abbrev pub IsEnd : End → ℕ → List Event → Option (List ℕ) → Type 0

@@ -2,7 +2,7 @@
 ghost use Rattle.std.specs.Prelude.{◌≡◌, ◌≢◌, ◌==◌, ◌≤◌, All, Option, codes, ℕ, List, length, take, false, Ok, IfOk, IfSome, None, OnOk, OnErr};
 ghost use Rattle.std.specs.Io.KnownBytes.{Appends, Consumes, IsAtEnd, Keeps};
 ghost use Rattle.http_frames.specs.Frames.{AppendsFront, BreaksOff, IsFrame, IsPart, bytes_at_hand, unread};
-ghost use Rattle.http_frames.specs.Frames.{address_in, clock_in, from_in, frame_bytes, gone_in, head, head_of, is_address, is_address_byte};
+ghost use Rattle.http_frames.specs.Frames.{address_in, clock_in, free_in, from_in, frame_bytes, gone_in, head, head_of, is_address, is_address_byte, one_word};
 ghost use Rattle.http_frames.specs.Frames.{is_single_space, more_in, piece_in, taken_in, users_head};
 ghost use Rattle.http_frames.specs.Frames.{grant_text, piece_text, wait_text};
 ghost use Rattle.std.specs.List.{after_first, list_all};
@@ -57,6 +57,8 @@ pub enum Head {
     Gone(u64),
     /// It is this moment now, in nanoseconds since 1970.
     Clock(u64),
+    /// So many bytes are free on the disk.
+    Free(u64),
     /// The line tells the address of the client of this connection, the next to begin.
     From(u64),
     /// So many bytes of a file of users follow: they are the users now.
@@ -66,6 +68,10 @@ pub enum Head {
     },
     /// Nothing more has come.
     Nothing,
+    /// May the file of the store still be written?
+    Touch,
+    /// The lease of whoever had the file before is over.
+    Go,
 }
 
 /// A frame that stands whole at the front of what was read.
@@ -90,17 +96,33 @@ pub struct Frames<I> {
 
 impl Head {
     /// What a line says, without its end: words with one blank between them, `NUMBER LENGTH`, `taken NUMBER BYTES`, `gone NUMBER`, `clock MOMENT`,
-    /// `from NUMBER ADDRESS`, `users LENGTH` or `none`, with numbers in decimal digits. None for any other line, for a length beyond `LARGEST`, and for an address that has not 1 to
+    /// `free BYTES`, `from NUMBER ADDRESS`, `users LENGTH`, `none`, `touch` or `go`, with numbers in decimal digits. None for any other line, for a length beyond `LARGEST`, and for an address that has not 1 to
     /// `LONGEST_ADDRESS` bytes of 33 to 126.
     pub fn of(line: &[u8]) -> Option<Head>
         ensures { result ≡ head line.now }
     {
-        if line == b"none".as_slice() {
-            return Some(Head::Nothing);
+        if let Some(head) = one_word(line) {
+            return Some(head);
         }
         let (word, rest) = str::from_utf8(line).ok()?.split_once(' ')?;
         by_word(word, rest)
     }
+}
+
+// What a line says that is one word.
+fn one_word(line: &[u8]) -> Option<Head>
+    ensures { result ≡ one_word line.now }
+{
+    if line == b"none".as_slice() {
+        return Some(Head::Nothing);
+    }
+    if line == b"touch".as_slice() {
+        return Some(Head::Touch);
+    }
+    if line == b"go".as_slice() {
+        return Some(Head::Go);
+    }
+    None
 }
 
 // What a line says, by its first word and what stands behind it.
@@ -115,6 +137,9 @@ fn by_word(word: &str, rest: &str) -> Option<Head>
     }
     if word == "clock" {
         return clock_of(rest);
+    }
+    if word == "free" {
+        return free_of(rest);
     }
     if word == "from" {
         return from_of(rest);
@@ -137,6 +162,13 @@ fn clock_of(rest: &str) -> Option<Head>
     ensures { result ≡ clock_in (numeral rest.now) }
 {
     Some(Head::Clock(number(rest)?))
+}
+
+// What `free BYTES` says, by what stands behind its first word.
+fn free_of(rest: &str) -> Option<Head>
+    ensures { result ≡ free_in (numeral rest.now) }
+{
+    Some(Head::Free(number(rest)?))
 }
 
 // What `taken NUMBER BYTES` says, by what stands behind its first word.
@@ -411,6 +443,14 @@ pub fn write_more<O: Write>(output: &mut O) -> Result<(), Fault>
     ensures err { OnErr result (BreaksOff (O.contents output.old) (O.contents output.new)) }
 {
     write_front(b"more\n", output)
+}
+
+/// Writes that the file of the store may still be written, as `write_piece` writes.
+pub fn write_touched<O: Write>(output: &mut O) -> Result<(), Fault>
+    ensures ok { OnOk result (Appends (O.contents output.old) (O.contents output.new) (codes "touched\n")) }
+    ensures err { OnErr result (BreaksOff (O.contents output.old) (O.contents output.new)) }
+{
+    write_front(b"touched\n", output)
 }
 
 // Writes the bytes, and where the output fails a front of them.

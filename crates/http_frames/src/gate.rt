@@ -1,5 +1,5 @@
 //! A service that is told whose turn it is, and answers one request a turn.
-ghost use Rattle.std.specs.Prelude.{◌≡◌, ◌≤◌, ℕ, List, IsTrue, IsFalse};
+ghost use Rattle.std.specs.Prelude.{◌≡◌, ◌≤◌, ℕ, List, None, IsTrue, IsFalse};
 
 use bytes::Bytes;
 use http::Request;
@@ -55,18 +55,22 @@ pub struct OneCall<S> {
     pub own: u64,
     /// How many bytes there is room for in the record of what the next turn changes.
     pub room: u64,
+    /// How many bytes are free on the disk, as a frame told last; none where none told it.
+    pub free: Option<u64>,
 }
 
 impl<S: TurnService> OneCall<S> {
     /// The service behind a gate, with room for any record.
     pub fn new(service: S) -> OneCall<S>
-        ensures { result.service ≡ service }
+        ensures service { result.service ≡ service }
+        ensures free { result.free ≡ None }
     {
         OneCall {
             service,
             spent: false,
             own: 0,
             room: u64::MAX,
+            free: None,
         }
     }
 

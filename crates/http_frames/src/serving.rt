@@ -3,10 +3,11 @@ ghost use Rattle.std.specs.Prelude.{◌≡◌, [], true, false, Ok, IfOk, OnOk, 
 ghost use Rattle.http_frames.specs.Clients.{Has, count_begun};
 ghost use Rattle.http_frames.specs.Frames.{IsPart, bytes_at_hand, unread};
 ghost use Rattle.http_frames.specs.TurnRuns.{RunsInTurns, Breaks, BreaksTold, TellsAll, WritesAnswers};
+ghost use Rattle.http_frames.specs.Gate.{free_behind};
 ghost use Rattle.http_frames.specs.FrameSteps.{BreaksUnturned, GoesOn, ReadsOn, TakesFrame};
 
 use crate::clients::Clients;
-use crate::frames::{Frames, Head};
+use crate::frames::{Frames, Head, write_touched};
 use crate::gate::{OneCall, TurnService};
 use line_streams::Fault;
 use std::io::{Read, Write};
@@ -20,7 +21,7 @@ pub enum End {
     /// At the end of the input.
     Whole,
     /// At a frame that is wrong: its first line is no head; its number is neither that of a connection that has begun nor, where bytes come, the next; it tells an address, and its number is
-    /// not the next; more was taken than was handed out; or it answers what nobody asked.
+    /// not the next; more was taken than was handed out; or it answers what nobody asked, as `go` does here.
     Wrong,
     /// The input ended within a frame.
     Cut,
@@ -118,12 +119,18 @@ pub fn take_frame<S: TurnService, O: Write>(
 ) -> Result<bool, Fault>
     ensures ok { IfOk result (λ right. TakesFrame S.begins S.answers S.clocked S.listed right head bytes.now clients.old clients.new service.old.service service.new.service (O.contents output.old) (O.contents output.new)) }
     ensures err { OnErr result (BreaksUnturned S.begins S.answers S.clocked S.listed clients.old clients.new service.old.service service.new.service (O.contents output.old) (O.contents output.new)) }
+    ensures free { service.new.free ≡ free_behind head service.old.free }
 {
     match head {
         None => Ok(false),
         Some(Head::Piece { number, .. }) => clients.take(number, bytes, output),
         Some(Head::Gone(number)) => Ok(clients.gone(number)),
         Some(Head::Nothing) => Ok(clients.nothing()),
+        Some(Head::Go) => Ok(false),
+        Some(Head::Touch) => {
+            write_touched(output)?;
+            Ok(true)
+        }
         Some(Head::From(number)) => Ok(clients.name_next(number, bytes)),
         Some(Head::Users { .. }) => {
             service.service.set_users(bytes);
@@ -131,6 +138,10 @@ pub fn take_frame<S: TurnService, O: Write>(
         }
         Some(Head::Clock(moment)) => {
             service.service.set_clock(moment);
+            Ok(true)
+        }
+        Some(Head::Free(bytes)) => {
+            service.free = Some(bytes);
             Ok(true)
         }
         Some(Head::Taken { number, count }) => {

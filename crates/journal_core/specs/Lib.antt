@@ -2,6 +2,7 @@ pub mod Clocked
 pub mod Format
 pub mod JournalLaws
 pub mod LiveCopies
+pub mod MadeRoom
 pub mod JournalReading
 pub mod Resting
 pub mod Sources

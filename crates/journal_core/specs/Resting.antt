@@ -74,3 +74,8 @@ HasRoomCause (Failed e) faults faults' = MoreFaults faults faults'
 HasRoomCause Full faults faults' = MoreFaults faults faults'
 HasRoomCause NotOpen faults faults' = Unit {0}
 HasRoomCause _ faults faults' = ⊥
+
+-- an error of a touch: the same, or the file is too long
+abbrev pub HasTouchCause : JournalError → ℕ → ℕ → Type 0
+HasTouchCause TooLarge faults faults' = Unit {0}
+HasTouchCause e faults faults' = HasRoomCause e faults faults'

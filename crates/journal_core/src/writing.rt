@@ -49,6 +49,7 @@ pub(crate) fn write_piece<D: Disk, B>(
     ensures next { IfOk result (λ next. next ≡ at + length bytes.now) }
     ensures writes { OnOk result ((front : List ℕ) → length front ≡ at → BeginsWith front (D.Disk.seen (disk_of disk.old)) → BeginsWith (front ++ bytes.now) (D.Disk.seen (disk_of disk.new))) }
     ensures len { OnOk result ((0 < length bytes.now) ⊎ (at ≤ length (D.Disk.seen (disk_of disk.old))) → length (D.Disk.seen (disk_of disk.new)) ≡ max (length (D.Disk.seen (disk_of disk.old))) (at + length bytes.now)) }
+    ensures most { length (D.Disk.seen (disk_of disk.new)) ≤ max (length (D.Disk.seen (disk_of disk.old))) (at + length bytes.now) }
     ensures seen { (front : List ℕ) → length front ≤ at → BeginsWith front (D.Disk.seen (disk_of disk.old)) → BeginsWith front (D.Disk.seen (disk_of disk.new)) }
     ensures behind { WritesBehind D.Disk.seen D.Disk.may_leave note.now at disk.old disk.new }
     ensures counts { IsCounted result (D.Disk.faults (disk_of disk.old)) (D.Disk.faults (disk_of disk.new)) (D.Disk.tally_of (disk_of disk.old)) (D.Disk.tally_of (disk_of disk.new)) }
@@ -130,6 +131,7 @@ pub(crate) fn lengthen<D: Disk, B>(
     requires some { from < to }
     ensures len { OnOk result ((length (D.Disk.seen (disk_of disk.new)) ≡ max (length (D.Disk.seen (disk_of disk.old))) to)
         ⊎ MoreFaults (D.Disk.faults (disk_of disk.old)) (D.Disk.faults (disk_of disk.new))) }
+    ensures most { length (D.Disk.seen (disk_of disk.new)) ≤ max (length (D.Disk.seen (disk_of disk.old))) to }
     ensures seen { (front : List ℕ) → length front ≤ from → BeginsWith front (D.Disk.seen (disk_of disk.old)) → BeginsWith front (D.Disk.seen (disk_of disk.new)) }
     ensures durable { OnOk result (Only (D.Disk.seen (disk_of disk.new)) (D.Disk.may_leave (disk_of disk.new))) }
     ensures behind { WritesBehind D.Disk.seen D.Disk.may_leave note.now from disk.old disk.new }

@@ -97,7 +97,7 @@ fn answer<D: Disk, O: Write + Drop>(
             writeln!(output, "ok")?;
         }
         Command::Room => {
-            let _roomy = journal.make_room_for(&(), ROOM)?;
+            let _roomy = journal.make_room_for(&(), ROOM, None)?;
             writeln!(output, "ok {}", journal.room())?;
         }
         Command::Wrong => writeln!(output, "wrong")?,

@@ -5,6 +5,7 @@ pub mod Rooms
 pub mod Standings
 pub mod Steps
 pub mod Taking
+pub mod TouchLemmas
 pub mod Turns
 pub mod Waits
 pub mod WholeRuns

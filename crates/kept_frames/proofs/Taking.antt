@@ -1,19 +1,16 @@
 -- Frames that are taken, and reading on.
-use Rattle.std.proofs.Common.{◌≡◌, ℕ, true, false, Bool, Option, Some, None, List, [], ◌∷◌, ◌++◌, take, refl, sym, subst}
-use Rattle.std.proofs.KnownBytes.{Appends-nil, Consumes-kept, Consumes-nil, Keeps-refl}
+use Rattle.std.proofs.Common.{◌≡◌, ℕ, true, false, Bool, Option, Some, None, List, [], ◌∷◌, ◌++◌, refl, sym, subst}
+use Rattle.std.proofs.KnownBytes.{Appends-nil, Consumes-kept, Consumes-nil}
 use Rattle.std.specs.Io.KnownBytes.{Appends}
 use Rattle.http.specs.declared.request.Request.{Request}
 use Rattle.http_server.specs.declared.response.Response.{Response}
 use Rattle.http_frames.specs.declared.clients.Clients.{Clients}
-use Rattle.http_frames.specs.declared.frames.Frames.{Frames}
 use Rattle.http_frames.specs.declared.frames.Head.{Head}
 use Rattle.http_frames.specs.declared.serving.End.{End}
-use Rattle.http_frames.specs.declared.serving.End.TheVariants.{Wrong}
 use Rattle.http_frames.specs.ConnectionEvents.{Closed, Event}
-use Rattle.http_frames.specs.Frames.{IsFrame, bytes_at_hand, unread}
-use Rattle.http_frames.specs.FrameSteps.{BreaksUnturned, IsEndFor, ReadsOn, TakesFrame}
+use Rattle.http_frames.specs.Frames.{IsFrame}
+use Rattle.http_frames.specs.FrameSteps.{BreaksUnturned, ReadsOn, TakesFrame}
 use Rattle.http_frames.specs.TurnRuns.{Moments}
-use Rattle.http_frames.proofs.Ends.{wrong_end}
 use Rattle.http_frames.proofs.Moments.{none as no_moments}
 use Rattle.journal_core.specs.declared.header.Header.{Header}
 use Rattle.journal_core.specs.declared.journal.Journal.{Journal}
@@ -43,25 +40,7 @@ module _ {S D O : Type 0} {begins : S → ℕ → S → Type 0} {answers : S →
         let x = taken text frame in
         (x.0, noted stays x.0 may x.1 x.2 (λ records stand. lead_keep begins answers clocked listed stands clocks lists x.0 records s s' x.5 x.2 stand) x.3 x.4 past same settles)
 
-  -- a frame is wrong: nothing happened
-  wrong_unnoted : {c c' : Clients} {s s' : S} {j : Journal D O} {o o' : O} (h : Option Head) (bytes : List ℕ) → TakesFrame begins answers clocked listed false h bytes c c' s s' (contents o) (contents o')
-      → StepWrites begins answers clocked listed contents keeps keeps_end At At c c' s s' j j o o'
-  wrong_unnoted {c} {c'} {s} {s'} {j} {o} {o'} h bytes x = (
-    [],
-    unnoted stays [] stays.none (subst (λ (k : Clients). Moments [] c k) (sym x.0) (no_moments c)) x.1 (λ records stand. subst (stands records) (sym x.1) stand) refl
-        (subst (λ (t : Option (List ℕ)). Appends (contents o) t []) (sym x.2) (Appends-nil (contents o))),
-  )
-
-  pub wrong_kept : {I : Type 0} {c c' : Clients} {s s' : S} {j : Journal D O} {o o' : O} (remaining : I → Option (List ℕ)) (frames : Frames I) (h : Option Head) (bytes : List ℕ) (n : ℕ)
-      → TakesFrame begins answers clocked listed false h bytes c c' s s' (contents o) (contents o') → IsFrame h bytes (take n (bytes_at_hand frames))
-      → StepGoesOn begins answers clocked listed contents keeps keeps_end At At (Some Wrong) c c' s s' j j o o' (unread remaining frames) (unread remaining frames)
-  wrong_kept {c = c} remaining frames h bytes n x frame = (
-    wrong_unnoted h bytes x,
-    Keeps-refl (unread remaining frames),
-    subst (λ (k : Clients). IsEndFor k Wrong (unread remaining frames)) (sym x.0) (wrong_end remaining frames c h bytes n frame x.3),
-  )
-
-  -- and the moment is noted
+  -- a frame is wrong: nothing happened, and the moment is noted
   pub wrong_noted : {c c' : Clients} {s s' : S} {j j' : Journal D O} {o o' : O} (h : Option Head) (bytes : List ℕ) → TakesFrame begins answers clocked listed false h bytes c c' s s' (contents o) (contents o')
       → past_of (clocked_of j') ≡ past_of (clocked_of j) ++ (disk_behind j', o') ∷ [] → header_in j' ≡ header_in j → StaysSettled seen may_leave is_clean j j'
       → StepWrites begins answers clocked listed contents keeps keeps_end At At c c' s s' j j' o o'

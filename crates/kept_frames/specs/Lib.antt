@@ -1,6 +1,7 @@
 pub mod TurnRecords
 pub mod KeptMoments
 pub mod Giving
+pub mod Touches
 pub mod KeptSteps
 pub mod Rounds
 pub mod KeptRuns

@@ -4,6 +4,8 @@ ghost use Rattle.http_frames.specs.Clients.{Has, count_begun};
 ghost use Rattle.http_frames.specs.Frames.{unread};
 ghost use Rattle.http_frames.specs.FrameSteps.{TellsMoment};
 ghost use Rattle.journal_core.specs.Resting.{Carries, IsSettled, disk_behind};
+ghost use Rattle.sqlite_disk.specs.Disk.{Only};
+ghost use Rattle.kept_frames.specs.Touches.{AsksTouch};
 ghost use Rattle.kept_frames.specs.Giving.{KeepsEither, SettlesWith};
 ghost use Rattle.kept_frames.specs.LateRuns.{RunsLate};
 ghost use Rattle.kept_frames.specs.LateSteps.{FailsLate, GoesOnLate, SettlesLate, TakesLate, WritesLate};
@@ -11,6 +13,7 @@ ghost use Rattle.kept_frames.specs.LateSteps.{FailsLate, GoesOnLate, SettlesLate
 use crate::error::KeptError;
 use crate::recording::Recording;
 use crate::rounds::{BYTES, give_turn, set_room};
+use crate::touching::touch_for;
 use http_frames::clients::Clients;
 use http_frames::frames::{Frames, Head};
 use http_frames::gate::OneCall;
@@ -101,7 +104,7 @@ fn go_on<S: Recording, D: Disk, I: Read, O: Write>(
     Ok(read_on(clients, frames)?)
 }
 
-// Takes what a frame says; before a tick, what waits is kept. False where the frame is wrong.
+// Takes what a frame says; before a tick, what waits is kept, and before a touch is told the file is touched. False where the frame is wrong.
 fn take_or_tick<S: Recording, D: Disk, O: Write>(
     alloc: Global,
     clients: &mut Clients,
@@ -117,6 +120,8 @@ fn take_or_tick<S: Recording, D: Disk, O: Write>(
         clients.old clients.new service.old.service service.new.service journal.old journal.new output.old output.new) }
     ensures err { OnErr result (FailsLate S.begins S.answers S.clocked S.listed S.stands D.Disk.seen D.Disk.may_leave D.Disk.is_clean O.contents waiting.old clients.old clients.new
         service.old.service service.new.service journal.old journal.new output.old output.new) }
+    // Where it asks for a touch, all that is seen of the file is on the disk.
+    ensures synced { OnOk result (AsksTouch head → Only (D.Disk.seen (disk_behind journal.new)) (D.Disk.may_leave (disk_behind journal.new))) }
     ensures usable { OnOk result (IsTrue (D.Disk.is_usable (disk_behind journal.new))) }
 {
     if is_tick(head) {
@@ -125,6 +130,7 @@ fn take_or_tick<S: Recording, D: Disk, O: Write>(
         journal.note(output);
         return Ok(right);
     }
+    touch_for(head, journal, output)?;
     let right = take_frame(clients, service, head, bytes, output)?;
     journal.note(output);
     Ok(right)

@@ -7,6 +7,7 @@ mod recording;
 mod rounds;
 mod serving;
 mod told;
+mod touching;
 
 pub use error::KeptError;
 pub use late::serve_late;

@@ -125,16 +125,18 @@ pub(crate) fn set_room<S: Recording, D: Disk, O: Write>(
     ensures usable { OnOk result (IsTrue (D.Disk.is_usable (disk_behind journal.new))) }
 {
     let most = service.service.most_room(clients.unanswered());
-    let full = make_room(journal, output, most.saturating_add(held as u64), full)?;
+    let wanted = most.saturating_add(held as u64);
+    let full = make_room(journal, output, wanted, service.free, full)?;
     service.room = (journal.room() as u64).saturating_sub(held as u64);
     Ok(full)
 }
 
-// Makes room for a round of so many bytes, unless there is room, or the disk was full. Whether the disk is full.
+// Makes room for a round of so many bytes, on a disk that has so many free where that was told, unless there is room, or the disk was full. Whether the disk is full.
 fn make_room<D: Disk, O>(
     journal: &mut Journal<D, O>,
     output: &O,
     wanted: u64,
+    free: Option<u64>,
     full: bool,
 ) -> Result<bool, JournalError>
     requires usable { IsTrue (D.Disk.is_usable (disk_behind journal.old)) }
@@ -146,7 +148,7 @@ fn make_room<D: Disk, O>(
     if full || journal.room() as u64 >= wanted {
         return Ok(full);
     }
-    let there = journal.make_room_for(output, wanted as usize)?;
+    let there = journal.make_room_for(output, wanted as usize, free)?;
     Ok(!there)
 }
 

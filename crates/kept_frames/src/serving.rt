@@ -1,16 +1,19 @@
 //! A server whose answers are handed out once what they tell of is kept: frames are taken, a round of turns is given and kept, and then its answers go out.
 ghost use Rattle.std.specs.Prelude.{◌≡◌, ℕ, List, [], IfOk, IsTrue, OnErr, OnOk};
+ghost use Rattle.sqlite_disk.specs.Disk.{Only};
 ghost use Rattle.http_frames.specs.Clients.{Has, count_begun};
 ghost use Rattle.http_frames.specs.Frames.{unread};
 ghost use Rattle.journal_core.specs.Resting.{IsSettled, disk_behind};
 ghost use Rattle.kept_frames.specs.KeptRuns.{RunsKept};
-ghost use Rattle.kept_frames.specs.Rounds.{FailsKept, GoesOnKept, WritesKept};
+ghost use Rattle.kept_frames.specs.Rounds.{FailsKept, GoesOnKept, TakesKept, WritesKept};
+ghost use Rattle.kept_frames.specs.Touches.{AsksTouch};
 
 use crate::error::KeptError;
 use crate::recording::Recording;
 use crate::rounds::give_round;
+use crate::touching::touch_for;
 use http_frames::clients::Clients;
-use http_frames::frames::Frames;
+use http_frames::frames::{Frames, Head};
 use http_frames::gate::OneCall;
 use http_frames::serving::{End, read_on, take_frame, tell_all};
 use journal_core::Journal;
@@ -66,11 +69,10 @@ fn go_on<S: Recording, D: Disk, I: Read, O: Write>(
 {
     if let Some(frame) = frames.next() {
         let length = frame.length;
-        if !take_frame(clients, service, frame.head, frame.bytes, output)? {
+        if !take_next(clients, service, frame.head, frame.bytes, journal, output)? {
             return Ok(Some(End::Wrong));
         }
         frames.skip(length);
-        journal.note(output);
         return Ok(None);
     }
     if round_or_ask(alloc, clients, service, journal, output)? {
@@ -78,6 +80,30 @@ fn go_on<S: Recording, D: Disk, I: Read, O: Write>(
     }
     output.flush()?;
     Ok(read_on(clients, frames)?)
+}
+
+// Takes what a frame says; before a touch is told the file is touched. False where the frame is wrong.
+fn take_next<S: Recording, D: Disk, O: Write>(
+    clients: &mut Clients,
+    service: &mut OneCall<S>,
+    head: Option<Head>,
+    bytes: &[u8],
+    journal: &mut Journal<D, O>,
+    output: &mut O,
+) -> Result<bool, KeptError>
+    requires usable { IsTrue (D.Disk.is_usable (disk_behind journal.old)) }
+    ensures ok { IfOk result (λ right. TakesKept S.begins S.answers S.clocked S.listed S.stands D.Disk.seen D.Disk.may_leave D.Disk.is_clean O.contents right head bytes.now clients.old clients.new
+        service.old.service service.new.service journal.old journal.new output.old output.new) }
+    ensures err { OnErr result (FailsKept S.begins S.answers S.clocked S.listed S.stands D.Disk.seen D.Disk.may_leave D.Disk.is_clean O.contents clients.old clients.new service.old.service
+        service.new.service journal.old journal.new output.old output.new) }
+    // Where it asks for a touch, all that is seen of the file is on the disk.
+    ensures synced { OnOk result (AsksTouch head → Only (D.Disk.seen (disk_behind journal.new)) (D.Disk.may_leave (disk_behind journal.new))) }
+    ensures usable { OnOk result (IsTrue (D.Disk.is_usable (disk_behind journal.new))) }
+{
+    touch_for(head, journal, output)?;
+    let right = take_frame(clients, service, head, bytes, output)?;
+    journal.note(output);
+    Ok(right)
 }
 
 // Gives a round of turns, where one may be given; or asks what else has come, unless that was asked. Whether a turn was given.

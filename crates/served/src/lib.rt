@@ -6,6 +6,7 @@ mod clock;
 mod fronts;
 mod host;
 mod keeping;
+mod lease;
 mod limits;
 mod log;
 mod logins;

@@ -34,7 +34,7 @@ const LOST: &str =
 
 // The words that the program takes.
 const USAGE: &str =
-    "usage: davserve [--help] [--one|--login] [--read-only] [--scheme http|https] [--prefix PATH] [--user-header NAME] [--address-header NAME] [--longest-timeout SECONDS] [--propfind-depth finite|infinite] [--max-body BYTES] [--window BYTES] [--waiting BYTES] [--unfinished BYTES] [--store FILE] [--existing] [--sync always|second] [--compact-over BYTES] [--compact-useless PERCENT] [--users FILE] [--realm TEXT] [--log FILE] [--seed NUMBER] [--clock NANOSECONDS|frames]\n";
+    "usage: davserve [--help] [--one|--login] [--read-only] [--scheme http|https] [--prefix PATH] [--user-header NAME] [--address-header NAME] [--longest-timeout SECONDS] [--propfind-depth finite|infinite] [--max-body BYTES] [--window BYTES] [--waiting BYTES] [--unfinished BYTES] [--store FILE] [--existing] [--lease SECONDS] [--sync always|second] [--compact-over BYTES] [--compact-useless PERCENT] [--users FILE] [--realm TEXT] [--log FILE] [--seed NUMBER] [--clock NANOSECONDS|frames]\n";
 
 /// Serves on the standard streams as the words behind the program's name choose, and tells on standard error why it ends, where that is not the end of the input. Its status.
 pub fn run(rt: &HostRuntime) -> ExitCode {
@@ -206,6 +206,7 @@ fn serve_file<R: Rng + Drop, C: Clock + Drop, I: Read + Drop, O: Write + Drop>(
         sync: choices.sync,
         compacting: choices.compacting,
         existing: choices.existing,
+        lease: choices.lease,
         path,
         place,
     };
@@ -242,10 +243,17 @@ fn tell_in_memory(rt: &HostRuntime) {
 // Tells how serving ended, where that is not the end of the input.
 fn told_end(rt: &HostRuntime, served: &Result<End, Stopped>) -> ExitCode {
     match served {
-        Ok(End::Whole) => ExitCode::SUCCESS,
-        Ok(End::Wrong) => ended(rt, "a frame is wrong\n", 4),
-        Ok(End::Cut) => no_stream(rt),
+        Ok(end) => told_input(rt, *end),
         Err(stopped) => told_stop(rt, stopped),
+    }
+}
+
+// Tells how the input ended, where it isn't whole.
+fn told_input(rt: &HostRuntime, end: End) -> ExitCode {
+    match end {
+        End::Whole => ExitCode::SUCCESS,
+        End::Wrong => ended(rt, "a frame is wrong\n", 4),
+        End::Cut => no_stream(rt),
     }
 }
 
@@ -253,6 +261,7 @@ fn told_stop(rt: &HostRuntime, stopped: &Stopped) -> ExitCode {
     match stopped {
         Stopped::Stream(Fault::OutOfMemory) => no_memory(rt),
         Stopped::Stream(Fault::Io) => no_stream(rt),
+        Stopped::Ended(end) => told_input(rt, *end),
         Stopped::Unkept(error) => ended_by(rt, "a change could not be kept", error, 5),
         Stopped::Refused(error) => ended_by(rt, "the store is not opened", error, status_of(error)),
         Stopped::Missing(path) => missing(rt, path.as_str()),

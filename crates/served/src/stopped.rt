@@ -2,6 +2,7 @@
 use dav_login_core::LoginError;
 use dav_store_core::StoreError;
 use dav_users_core::UsersError;
+use http_frames::serving::End;
 use journal_core::JournalError;
 use kept_frames::KeptError;
 use line_streams::Fault;
@@ -13,6 +14,8 @@ use std::io;
 pub(crate) enum Stopped {
     /// A stream failed, or there is no memory.
     Stream(Fault),
+    /// The input ended, or a frame was wrong, before the server served.
+    Ended(End),
     /// The file is refused, or could not be opened or read.
     Refused(StoreError),
     /// Beside the file, at this path, stands what has the name of its draft, and is none.

@@ -7,6 +7,7 @@ ghost use Rattle.store_files.specs.FoundStores.{MayBeOpened};
 use crate::clock::first_moment;
 use crate::fronts::Fronts;
 use crate::keeping::serve_kept_behind;
+use crate::lease::{touch_first, wait_for};
 use crate::place::Place;
 use crate::stopped::Stopped;
 use crate::streams::Streams;
@@ -45,6 +46,8 @@ pub(crate) struct Keeping<'a> {
     pub(crate) compacting: Compacting,
     /// Whether the file has to be there: none is made then.
     pub(crate) existing: bool,
+    /// For how many seconds nobody else may serve the file behind the last touch, where machines share it.
+    pub(crate) lease: Option<u64>,
     /// The path of the file.
     pub(crate) path: &'a str,
     /// Where the file is, once it is open.
@@ -63,7 +66,7 @@ struct Beginning<R, C> {
 /// it is compacted first.
 ///
 /// - `Refused`: the file is refused, or could not be made, opened or read. `InTheWay`: beside it stands one that is no store, and has the name of the new file of a compaction. `Missing`: there is none, and it has to be there. `Empty`: it has no whole header. `Taken`: another one came there as it was made.
-/// - `Lost`: another file has its name before it is served.
+/// - `Lost`: another file has its name before it is served. `Ended`: with a lease, the input ended before the file was served, or a frame was wrong.
 /// - `Unkept`: what was changed could not be kept. `WrongRealm`: the realm can't stand between quotes. `Stream`: a stream failed, or there is no memory, or the system does not tell the moment.
 pub(crate) fn serve_stored<R: Rng + Drop, C: Clock + Drop, I: Read, O: Write>(
     rt: &HostRuntime,
@@ -77,7 +80,7 @@ pub(crate) fn serve_stored<R: Rng + Drop, C: Clock + Drop, I: Read, O: Write>(
     let path = keeping.path;
     let now = first_moment(rt, began)?;
     stand(rt, path, keeping.existing, now)?;
-    let found = find(rt, path, now, &streams.output, Wary);
+    let found = find(rt, path, now, keeping.lease, streams, Wary);
     if let Err(Stopped::Refused(StoreError::Journal(JournalError::Unsupported))) = &found {
         tell_version(rt, path);
     }
@@ -184,18 +187,23 @@ struct Found<D: Disk, B> {
     used: u64,
 }
 
-// Opens the file at this path and reads it. `Empty` where it has no whole header.
-fn find<S: Start, B>(
+// Opens the file at this path and reads it, with a lease once whoever had it before has stopped. `Empty` where it has no whole header.
+fn find<S: Start, I: Read, O: Write>(
     rt: &HostRuntime,
     path: &str,
     now: Moment,
-    output: &B,
+    lease: Option<u64>,
+    streams: &mut Streams<I, O>,
     start: S,
-) -> Result<Found<FileFrom<S>, B>, Stopped>
+) -> Result<Found<FileFrom<S>, O>, Stopped>
     ensures usable { IfOk result (λ found. IsTrue (file_is_usable S.Start (disk_behind found.journal))) }
 {
     let new = header_of(rt, 0, now.0)?;
-    let (mut journal, reader) = open(rt, path, new, output, start)?;
+    let (mut journal, reader) = open(rt, path, new, &streams.output, start)?;
+    if let Some(seconds) = lease {
+        wait_for(rt, path, seconds, streams)?;
+    }
+    let output = &streams.output;
     let mut opening = Opening::of(rt, path);
     let (header, opened, used) = read_all(rt, path, &mut journal, reader, output, &mut opening)?;
     opening.end();
@@ -267,6 +275,7 @@ fn serve_found<R: Rng + Drop, C: Clock + Drop, D: Disk + Drop, I: Read, O: Write
     let Keeping {
         settings,
         sync,
+        lease,
         path,
         place,
         ..
@@ -279,6 +288,9 @@ fn serve_found<R: Rng + Drop, C: Clock + Drop, D: Disk + Drop, I: Read, O: Write
         ..
     } = found;
     let service = server_over(rt.alloc(), settings, opened, header, beginning)?;
+    if lease.is_some() {
+        touch_first(streams, &mut journal)?;
+    }
     serve_recorded(rt, fronts, sync, streams, service, &mut journal)
 }
 

@@ -9,6 +9,9 @@ const WINDOW: u64 = 256 * 1024;
 // All answers that wait have so many bytes beside the stores', and all requests that have not come whole, if nothing else is said.
 const BOUND: u64 = 256 * 1024 * 1024;
 
+// A lease has so many seconds at most.
+const LONGEST_LEASE: u64 = 60;
+
 // The realm of a login, if nothing else is said.
 const REALM: &str = "davserve";
 
@@ -108,6 +111,8 @@ pub struct Choices {
     pub store: Option<String>,
     /// Whether that file has to be there: none is made then.
     pub existing: bool,
+    /// For how many seconds nobody else may serve that file behind the last touch, where machines share it: 1 to 60.
+    pub lease: Option<u64>,
     /// When that file has what is changed.
     pub sync: Sync,
     /// When that file is compacted at the start.
@@ -124,7 +129,7 @@ pub struct Choices {
 
 impl Choices {
     /// Perhaps `--one` or `--login`, and behind it `--read-only` and `--existing`, which have no value, and options, each with its value, in any order; of one that comes twice the last counts. `OutOfMemory`
-    /// where there is no memory for it. `Unknown` where a word is none of these, `Value` where a value is missing or isn't one; and `Usage` where stores that a file keeps meet `--one` or a seed, or nothing is kept and it is to be there already or to be synced each second, users `--one` or
+    /// where there is no memory for it. `Unknown` where a word is none of these, `Value` where a value is missing or isn't one; and `Usage` where stores that a file keeps meet `--one` or a seed, or nothing is kept and it is to be there already, to have a lease or to be synced each second, users `--one` or
     /// a header that names the principal, a file of users `--login`, or `--read-only` or a log `--one`.
     pub fn of(alloc: Global, words: &[String]) -> Result<Choices, Unread> {
         let mut choices = Choices::unsaid(alloc)?;
@@ -152,6 +157,7 @@ impl Choices {
             log: None,
             store: None,
             existing: false,
+            lease: None,
             sync: Sync::Always,
             compacting: Compacting {
                 over: COMPACT_OVER,
@@ -275,6 +281,8 @@ impl Choices {
             self.store = Some(file_of(alloc, value)?);
         } else if name == "--sync" {
             self.sync = sync_of(value)?;
+        } else if name == "--lease" {
+            self.lease = Some(lease_of(value)?);
         } else if name == "--compact-over" {
             self.compacting.over = size_of(value)?;
         } else if name == "--compact-useless" {
@@ -311,12 +319,17 @@ impl Choices {
         Ok(true)
     }
 
+    // Whether something is said of a file that keeps the stores.
+    fn says_how_kept(&self) -> bool {
+        self.existing || self.lease.is_some() || self.sync == Sync::Second
+    }
+
     // Whether what is chosen goes together. A server behind a login is told by a field of its own who logged in, and by no other.
     fn go_together(&self) -> bool {
         if self.store.is_some() && (self.one || self.seed.is_some()) {
             return false;
         }
-        if self.store.is_none() && (self.existing || self.sync == Sync::Second) {
+        if self.store.is_none() && self.says_how_kept() {
             return false;
         }
         if self.one && (self.read_only || self.log.is_some() || self.logs_in()) {
@@ -324,6 +337,14 @@ impl Choices {
         }
         let is_told = self.user_header.is_some() || (self.login && self.users.is_some());
         !(self.logs_in() && is_told)
+    }
+}
+
+// The seconds of a lease that a word names. `Usage` where it names none, or 0, or more than a lease has.
+fn lease_of(word: &str) -> Result<u64, Unread> {
+    match word.parse()? {
+        seconds if seconds == 0 || seconds > LONGEST_LEASE => Err(Unread::Usage),
+        seconds => Ok(seconds),
     }
 }
 

@@ -3,6 +3,8 @@ use crate::failures::Failure;
 use crate::placed::{FIRST_GATE, Placed, read_word};
 use journal_copies::read_round;
 use journal_core::{Header, JournalError, Reader, Stream};
+use journal_file::open as open_locked;
+use sqlite_std_file::Wary;
 use std::alloc::Global;
 use std::fs::{self, File, Metadata};
 use std::io::{self, BufWriter, ErrorKind, Read, Write};
@@ -12,6 +14,9 @@ use store_files::is_one_file;
 
 // How long it rests where nothing has come, in milliseconds.
 const PAUSE: u64 = 50;
+
+// So many rests lie between two looks whether anybody has the file open to write.
+const LOOKS: u64 = 20;
 
 // A file that is followed.
 #[derive(Drop)]
@@ -34,17 +39,20 @@ enum AtGate {
 }
 
 /// Writes the rounds of the store at this path to the output, each once its gate is open (own), from the round that ends at byte `from` on, or where none does, or none is named, from the first one. It ends where the
-/// output or a read fails, or the file is damaged. Where another file has come to the path, that is told in the stream, and all begins anew with it.
+/// output or a read fails, or the file is damaged; and, where `to_end` says so, once nobody has the file open to write, and all is written. Where another file has come to the path, that is told in the stream, and all begins anew with it.
 pub fn follow<O: Write + Drop>(
     rt: &HostRuntime,
     path: &str,
     from: Option<u64>,
+    to_end: bool,
     output: &mut BufWriter<O>,
 ) -> Result<(), Failure> {
     let mut from = from;
     for _ in 0..u64::MAX {
         let mut followed = begin(rt, path)?;
-        followed.write_all(rt, path, from.take(), output)?;
+        if followed.write_all(rt, path, from.take(), to_end, output)? {
+            return Ok(output.flush()?);
+        }
     }
     Ok(())
 }
@@ -88,14 +96,15 @@ fn read_front(alloc: Global, file: &File) -> io::Result<Vec<u8>> {
 }
 
 impl Followed {
-    // Writes the header and the rounds, until another file stands at the path.
+    // Writes the header and the rounds, until another file stands at the path, or, where that is asked for, until nobody writes any more. Whether it is that.
     fn write_all<O: Write + Drop>(
         &mut self,
         rt: &HostRuntime,
         path: &str,
         from: Option<u64>,
+        to_end: bool,
         output: &mut BufWriter<O>,
-    ) -> Result<(), Failure> {
+    ) -> Result<bool, Failure> {
         if let Some(byte) = from
             && !self.go_to(byte)?
         {
@@ -106,8 +115,9 @@ impl Followed {
         }
         output.write_all(&self.front)?;
         output.write_all(&self.place.to_le_bytes())?;
-        self.pass(rt, path, output)?;
-        Ok(output.write_all(b"shutgate")?)
+        let is_end = self.pass(rt, path, to_end, output)?;
+        output.write_all(b"shutgate")?;
+        Ok(is_end)
     }
 
     // Goes to the gate of the round that ends at this byte; whether one does.
@@ -147,21 +157,47 @@ impl Followed {
         Ok(gate.checked_add(round))
     }
 
-    // Writes each round that comes, until another file stands at the path. What came into this one before is written then, too.
+    // Writes each round that comes, until another file stands at the path, or nobody writes any more, where that is asked for. What came into this one before is written then, too. Whether nobody writes.
     fn pass<O: Write + Drop>(
         &mut self,
         rt: &HostRuntime,
         path: &str,
+        to_end: bool,
         output: &mut BufWriter<O>,
-    ) -> Result<(), Failure> {
-        for _ in 0..u64::MAX {
+    ) -> Result<bool, Failure> {
+        for turn in 0..u64::MAX {
             self.write_rounds(rt.alloc(), output)?;
             if is_another(rt, path, &self.found)? {
-                return self.write_rounds(rt.alloc(), output);
+                self.write_rounds(rt.alloc(), output)?;
+                return Ok(false);
+            }
+            if to_end && turn.is_multiple_of(LOOKS) && self.write_last(rt, path, output)? {
+                return Ok(true);
             }
             sleep(rt, Duration::from_millis(PAUSE));
         }
-        Ok(())
+        Ok(false)
+    }
+
+    // Writes what is left, where nobody has the file open to write. Whether nobody has. It is locked meanwhile.
+    fn write_last<O: Write + Drop>(
+        &mut self,
+        rt: &HostRuntime,
+        path: &str,
+        output: &mut BufWriter<O>,
+    ) -> Result<bool, Failure> {
+        match open_locked(rt, path, self.header, &(), Wary) {
+            Ok(locked) => {
+                let is_this = !is_another(rt, path, &self.found)?;
+                if is_this {
+                    self.write_rounds(rt.alloc(), output)?;
+                }
+                drop(locked);
+                Ok(is_this)
+            }
+            Err(JournalError::Busy) => Ok(false),
+            Err(error) => Err(Failure::from(error)),
+        }
     }
 
     // Writes the rounds up to the gate that is shut.

@@ -20,8 +20,8 @@ pub enum What<'a> {
     Unlock(&'a str),
     /// What stood in it at this moment is put into this folder, which is made.
     ExportAt(&'a str, u64),
-    /// Its rounds are written out as they come, from the one on that ends at this byte.
-    Follow(Option<u64>),
+    /// Its rounds are written out as they come, from the one on that ends at this byte; with true until nobody has it open to write.
+    Follow(Option<u64>, bool),
     /// What comes from one that is followed is added to it.
     Take,
 }
@@ -54,12 +54,13 @@ pub struct Choices<'a> {
 
 impl<'a> Choices<'a> {
     /// A path, and then `check`; or `list` with a folder or without one; or `locks`; or `unlock` with a token; or `log`, with `--bodies` or without it; or `compact`; or `settle` with a moment; or `new`; or `import` or `export` with a folder of the system, this one also with `--at` and a moment; or `salvage` with a file; or
-    /// `adopt`, with `--yes` or without it; or `follow`, with a number of bytes or without one; or `take`. None where the words are other than that.
+    /// `adopt`, with `--yes` or without it; or `follow`, with a number of bytes or without one, and with `--to-end` or without it; or `take`. None where the words are other than that.
     pub fn of(words: &'a [String]) -> Option<Choices<'a>> {
         let (path, rest) = words.split_first()?;
         let what = match rest {
             [word] => alone(word.as_str())?,
             [word, next] => with(word.as_str(), next.as_str())?,
+            [word, next, option] => with_both(word.as_str(), next.as_str(), option.as_str())?,
             [word, next, option, value] => {
                 with_value(
                     word.as_str(),
@@ -87,7 +88,7 @@ fn alone<'a>(word: &str) -> Option<What<'a>> {
         "compact" => Some(What::Compact),
         "new" => Some(What::New),
         "adopt" => Some(What::Read(Purpose::Adopt(false))),
-        "follow" => Some(What::Follow(None)),
+        "follow" => Some(What::Follow(None, false)),
         "take" => Some(What::Take),
         _ => None,
     }
@@ -102,7 +103,7 @@ fn with<'a>(word: &str, next: &'a str) -> Option<What<'a>> {
         "import" => Some(What::Import(next)),
         "export" => Some(What::Read(Purpose::Export(next))),
         "salvage" => Some(What::Read(Purpose::Salvage(next))),
-        "follow" => Some(What::Follow(Some(number(next)?))),
+        "follow" if next != "--to-end" => Some(What::Follow(Some(number(next)?), false)),
         _ => with_option(word, next),
     }
 }
@@ -112,6 +113,15 @@ fn with_option<'a>(word: &str, option: &str) -> Option<What<'a>> {
     match (word, option) {
         ("log", "--bodies") => Some(What::Log(true)),
         ("adopt", "--yes") => Some(What::Read(Purpose::Adopt(true))),
+        ("follow", "--to-end") => Some(What::Follow(None, true)),
+        _ => None,
+    }
+}
+
+// What a word chooses with the next one and an option.
+fn with_both<'a>(word: &str, next: &str, option: &str) -> Option<What<'a>> {
+    match (word, option) {
+        ("follow", "--to-end") => Some(What::Follow(Some(number(next)?), true)),
         _ => None,
     }
 }

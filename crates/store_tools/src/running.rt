@@ -13,7 +13,7 @@ use store_views::{Logged, log};
 
 // The words that the program takes.
 const USAGE: &str =
-    "usage: davstore PATH new\n       davstore PATH check\n       davstore PATH list [FOLDER]\n       davstore PATH locks\n       davstore PATH unlock TOKEN\n       davstore PATH log [--bodies]\n       davstore PATH compact\n       davstore PATH settle MOMENT\n       davstore PATH import DIR\n       davstore PATH export DIR [--at MOMENT]\n       davstore PATH salvage OUT\n       davstore COPY adopt [--yes]\n       davstore PATH follow [BYTE]\n       davstore COPY take\n";
+    "usage: davstore PATH new\n       davstore PATH check\n       davstore PATH list [FOLDER]\n       davstore PATH locks\n       davstore PATH unlock TOKEN\n       davstore PATH log [--bodies]\n       davstore PATH compact\n       davstore PATH settle MOMENT\n       davstore PATH import DIR\n       davstore PATH export DIR [--at MOMENT]\n       davstore PATH salvage OUT\n       davstore COPY adopt [--yes]\n       davstore PATH follow [BYTE] [--to-end]\n       davstore COPY take\n";
 
 /// Does what the words behind the program's name choose, and tells it (own). The status: 0, or 1 where the file isn't whole, or nothing was there to tell, or not all was done, 2 where the words are not of the program's form, and 3 where a call of the system failed, or there was no memory.
 pub fn run(rt: &HostRuntime) -> u8 {
@@ -82,8 +82,8 @@ fn do_what<O: Write + Drop>(
         What::Import(folder) => import(rt, path, folder, output),
         What::Unlock(token) => unlock(rt, path, token, output),
         What::ExportAt(folder, moment) => export_at(rt, path, folder, Moment(moment), output),
-        What::Follow(from) => {
-            follow(rt, path, from, output)?;
+        What::Follow(from, to_end) => {
+            follow(rt, path, from, to_end, output)?;
             Ok(true)
         }
         What::Take => take(rt, path, output),

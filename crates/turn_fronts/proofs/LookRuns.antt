@@ -2,7 +2,7 @@
 use Rattle.std.proofs.Common.{ℕ, List, [], ◌∷◌, map, ap}
 use Rattle.http.specs.declared.request.Request.{Request}
 use Rattle.http_server.specs.declared.response.Response.{Response}
-use Rattle.http_frames.specs.ConnectionEvents.{Event, Came, Rejected, Took, Gone, Answered, Told, Granted, Awaited, Ended, Clock, From, Users, Asked, Nothing, Closed}
+use Rattle.http_frames.specs.ConnectionEvents.{Event, Came, Rejected, Took, Gone, Answered, Told, Granted, Awaited, Ended, Clock, Free, From, Users, Asked, Nothing, Touched, Closed}
 use Rattle.http_frames.specs.TurnRuns.{EventDoes, EventsLead}
 use Rattle.turn_fronts.specs.declared.read_only.ReadOnly.{ReadOnly}
 use Rattle.turn_fronts.specs.Looking.{with_looks}
@@ -22,6 +22,7 @@ module _ {S : Type 0} (begins : S → ℕ → S → Type 0) (answers : S → Req
       → EventDoes begins answers clocked listed (with_looks e) old.service new.service
   event_looks (Answered number calls) old new does = turn_looks begins answers number calls old new does
   event_looks (Clock moment) old new does = does
+  event_looks (Free count) old new does = ap service_of does
   event_looks (Users file) old new does = does
   event_looks (From number address) old new does = ap service_of does
   event_looks (Came number bytes) old new does = ap service_of does
@@ -34,6 +35,7 @@ module _ {S : Type 0} (begins : S → ℕ → S → Type 0) (answers : S → Req
   event_looks (Ended number) old new does = ap service_of does
   event_looks Asked old new does = ap service_of does
   event_looks Nothing old new does = ap service_of does
+  event_looks Touched old new does = ap service_of does
   event_looks Closed old new does = ap service_of does
 
   pub leads_looks : (events : List Event) (old new : ReadOnly S) → EventsLead (ReadsBegin begins answers) (ReadsAnswer begins answers) ReadsClock ReadsList old events new

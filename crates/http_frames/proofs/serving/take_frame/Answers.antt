@@ -1,6 +1,6 @@
 use Rattle.std.proofs.Common.{Some, ap, refl, ◌∙◌}
 use Rattle.http_frames.specs.declared.frames.Head.{Head}
-use Rattle.http_frames.proofs.Framing.{clock_frame, from_frame, gone_frame, nothing_frame, piece_breaks, piece_frame, taken_breaks, taken_frame, untaken_frame, users_frame}
+use Rattle.http_frames.proofs.Framing.{clock_frame, free_frame, from_frame, gone_frame, nothing_frame, piece_breaks, piece_frame, taken_breaks, taken_frame, touch_breaks, touch_frame, untaken_frame, users_frame}
 use Rattle.http_frames.proofs.Results.{on_err}
 use Rattle.http_frames.proofs.serving.take_frame.Goals as goal
 
@@ -58,6 +58,11 @@ returns-in-Some-Clock-clause-ok g c =
     clock_frame g.S.TurnService.begins g.S.Service.answers g.S.TurnService.clocked g.S.TurnService.listed c.args.head c.in-Some-Clock.moment c.args.bytes.now c.args.clients.now c.args.service.now.service c.set_clock.new.self
     (g.O.Write.contents c.args.output.now) is c.set_clock.ensures
 
+pub returns-in-Some-Free-clause-ok : goal.returns-in-Some-Free-clause-ok
+returns-in-Some-Free-clause-ok g c =
+    let is = c.in-Some-Free.is ∙ ap (λ (h : Head). Some h) (rw c.in-Some-Free.is at c.in-Some-Free.field-0-is) in
+    free_frame g.S.TurnService.begins g.S.Service.answers g.S.TurnService.clocked g.S.TurnService.listed c.args.head c.in-Some-Free.bytes c.args.bytes.now c.args.clients.now c.args.service.now.service (g.O.Write.contents c.args.output.now) is
+
 pub returns-in-Some-Users-clause-ok : goal.returns-in-Some-Users-clause-ok
 returns-in-Some-Users-clause-ok g c =
     let is = c.in-Some-Users.is ∙ ap (λ (h : Head). Some h) (rw c.in-Some-Users.is at c.in-Some-Users.field-0-is) in
@@ -70,3 +75,15 @@ returns-in-Some-From-clause-ok g c =
     from_frame g.S.TurnService.begins g.S.Service.answers g.S.TurnService.clocked g.S.TurnService.listed c.name_next.result c.args.head c.in-Some-From.number c.args.bytes.now c.args.clients.now c.name_next.new.self
     c.args.service.now.service (g.O.Write.contents c.args.output.now) is c.name_next.ensures.order c.name_next.ensures.takes c.name_next.ensures.refused c.name_next.ensures.queue c.name_next.ensures.settings.config
     c.name_next.ensures.settings.window
+
+pub returns-in_err-write_touched-in-Some-Touch-clause-err : goal.returns-in_err-write_touched-in-Some-Touch-clause-err
+returns-in_err-write_touched-in-Some-Touch-clause-err g c =
+    let x = touch_breaks g.S.TurnService.begins g.S.Service.answers g.S.TurnService.clocked g.S.TurnService.listed c.args.clients.now c.args.service.now.service (g.O.Write.contents c.args.output.now)
+    (g.O.Write.contents c.write_touched.new.output) c.in_err-write_touched-in-Some-Touch.ensures.err in
+    on_err _ x
+
+pub returns-in_ok-write_touched-in-Some-Touch-clause-ok : goal.returns-in_ok-write_touched-in-Some-Touch-clause-ok
+returns-in_ok-write_touched-in-Some-Touch-clause-ok g c =
+    let is = c.in-Some-Touch.is ∙ ap (λ (h : Head). Some h) (rw c.in-Some-Touch.is at c.in-Some-Touch.field-0-is) in
+    touch_frame g.S.TurnService.begins g.S.Service.answers g.S.TurnService.clocked g.S.TurnService.listed c.args.head c.args.bytes.now c.args.clients.now c.args.service.now.service (g.O.Write.contents c.args.output.now)
+    (g.O.Write.contents c.write_touched.new.output) is c.in_ok-write_touched-in-Some-Touch.ensures.ok

@@ -41,6 +41,7 @@ writing-preserved g c =
     let seen = g.D.Disk.seen in
     let next : c.in-Ok.next ≡ c.writing.at + c.min-count.result = search rules in
     let len : 0 < c.min-count.result → length (seen (disk_of c.write_piece.new.disk)) ≡ max (length (seen (disk_of c.writing.disk))) (c.writing.at + c.min-count.result) = search rules in
+    let most : length (seen (disk_of c.write_piece.new.disk)) ≤ max (length (seen (disk_of c.writing.disk))) (c.writing.at + c.min-count.result) = search rules in
     let count : 0 < c.min-count.result = omega (arith, c.min-count.ensures, c.writing-test.true) in
     let faults = g.D.Disk.faults in
     let tally = g.D.Disk.tally_of in
@@ -52,6 +53,7 @@ writing-preserved g c =
       to = omega (arith, next, c.min-count.ensures, c.writing-test.true);
       len = λ some. len_more c.args.from c.writing.at c.min-count.result c.in-Ok.next (length (seen (disk_of c.args.disk.now))) (length (seen (disk_of c.writing.disk))) (length (seen (disk_of c.write_piece.new.disk))) c.writing.invariant.len c.writing.invariant.len_none c.writing.invariant.from next count (len count);
       len_none = λ none. absurd (omega (arith, next, none, c.min-count.ensures, c.writing-test.true, c.writing.invariant.from));
+      most = omega (arith, most, c.writing.invariant.most, c.min-count.ensures, c.writing-test.true);
       seen = λ front low it. c.write_piece.ensures.seen front (omega (arith, low, c.writing.invariant.from)) (c.writing.invariant.seen front low it);
       behind = behind_on g.D.Disk.seen g.D.Disk.may_leave c.args.note.now c.args.from c.writing.at c.args.disk.now c.writing.disk c.write_piece.new.disk c.writing.invariant.from c.writing.invariant.behind c.write_piece.ensures.behind;
       counts = counted_two 0 (Ok 0) (faults d0) (faults d1) (faults d2) (tally d0) (tally d1) (tally d2) c.writing.invariant.counts
@@ -72,6 +74,7 @@ writing-init g c =
       to = omega (arith, c.requires.some);
       len = λ some. absurd (omega (arith, some));
       len_none = λ none. refl;
+      most = omega arith;
       seen = λ front low it. it;
       behind = behind_not g.D.Disk.seen g.D.Disk.may_leave c.args.note.now c.args.from c.args.disk.now;
       counts = record { faults = refl; refused = record { caught = refl; refused = refl } };
@@ -92,6 +95,21 @@ returns-then-is_no_room-clause-len g c =
     let d3 = disk_of c.sync.new.self in
     let told = subst (λ (r : Result ℕ Error). IsCounted r (faults d1) (faults d2) (tally d1) (tally d2)) c.in-Err.is c.write_piece.ensures.counts in
     fault_told c.sync.result _ (faults d0) (faults d1) (faults d2) (faults d3) c.writing.invariant.counts.faults told.faults.0 c.sync.ensures.faults
+
+pub returns-then-is_no_room-clause-most : goal.returns-then-is_no_room-clause-most
+returns-then-is_no_room-clause-most g c =
+    let seen = g.D.Disk.seen in
+    let most : length (seen (disk_of c.write_piece.new.disk)) ≤ max (length (seen (disk_of c.writing.disk))) (c.writing.at + c.min-count.result) = search rules in
+    subst (λ (l : List ℕ). length l ≤ max (length (seen (disk_of c.args.disk.now))) c.args.to) (sym c.sync.ensures.seen) (omega (arith, most, c.writing.invariant.most, c.min-count.ensures, c.writing-test.true))
+
+pub returns-in-Err-clause-most : goal.returns-in-Err-clause-most
+returns-in-Err-clause-most g c =
+    let seen = g.D.Disk.seen in
+    let most : length (seen (disk_of c.write_piece.new.disk)) ≤ max (length (seen (disk_of c.writing.disk))) (c.writing.at + c.min-count.result) = search rules in
+    omega (arith, most, c.writing.invariant.most, c.min-count.ensures, c.writing-test.true)
+
+pub returns-clause-most : goal.returns-clause-most
+returns-clause-most g c = subst (λ (l : List ℕ). length l ≤ max (length (g.D.Disk.seen (disk_of c.args.disk.now))) c.args.to) (sym c.sync-2.ensures.seen) c.writing.invariant.most
 
 pub returns-then-is_no_room-clause-seen : goal.returns-then-is_no_room-clause-seen
 returns-then-is_no_room-clause-seen g c =

@@ -10,6 +10,7 @@ invariant-writing g l = record {
   to : l.at ≤ l.to;
   len : l.from < l.at → length (g.D.Disk.seen (disk_of l.disk)) ≡ max (length (g.D.Disk.seen (disk_of l.fn.disk))) l.at;
   len_none : l.from ≡ l.at → length (g.D.Disk.seen (disk_of l.disk)) ≡ length (g.D.Disk.seen (disk_of l.fn.disk));
+  most : length (g.D.Disk.seen (disk_of l.disk)) ≤ max (length (g.D.Disk.seen (disk_of l.fn.disk))) l.to;
   seen : (front : List ℕ) → length front ≤ l.from → BeginsWith front (g.D.Disk.seen (disk_of l.fn.disk)) → BeginsWith front (g.D.Disk.seen (disk_of l.disk));
   behind : WritesBehind g.D.Disk.seen g.D.Disk.may_leave l.note l.from l.fn.disk l.disk;
   counts : IsCounted {T = ℕ} (Ok 0) (g.D.Disk.faults (disk_of l.fn.disk)) (g.D.Disk.faults (disk_of l.disk)) (g.D.Disk.tally_of (disk_of l.fn.disk)) (g.D.Disk.tally_of (disk_of l.disk));

@@ -1,22 +1,28 @@
 use Rattle.std.proofs.Common.{refl, take}
+use Rattle.std.proofs.KnownBytes.{Keeps-refl}
+use Rattle.http_frames.proofs.Ends.{wrong_end}
 use Rattle.http_frames.specs.Frames.{bytes_at_hand, unread}
 use Rattle.kept_frames.proofs.Standings.{kept_stays}
 use Rattle.kept_frames.proofs.Steps.{fails, flushed, steps_break}
-use Rattle.kept_frames.proofs.Taking.{frame_noted, read_broken, read_kept, unturned_broken, wrong_kept}
+use Rattle.kept_frames.proofs.Taking.{read_broken, read_kept}
 use Rattle.kept_frames.proofs.serving.go_on.Goals as goal
 
-pub returns-in_err-take_frame-clause-err : goal.returns-in_err-take_frame-clause-err
-returns-in_err-take_frame-clause-err g c = fails c.from_residual.result (unturned_broken kept_stays g.met.S.Recording.clocks g.met.S.Recording.lists c.in_err-take_frame.ensures.err tt)
+pub returns-in_err-take_next-clause-err : goal.returns-in_err-take_next-clause-err
+returns-in_err-take_next-clause-err g c = fails c.from_residual.result c.in_err-take_next.ensures.err.1
 
 pub returns-then-not-branch-clause-ok : goal.returns-then-not-branch-clause-ok
 returns-then-not-branch-clause-ok g c =
-    wrong_kept kept_stays g.I.Read.remaining c.args.frames.now c.in-Some.frame.head c.in-Some.frame.bytes.now c.in-Some.frame.length (rw c.if-not-branch.true at c.in_ok-take_frame.ensures.ok) c.in-Some.ensures.some.1
+    let x = rw c.if-not-branch.true at c.in_ok-take_next.ensures.ok in (
+      x.0,
+      Keeps-refl (unread g.I.Read.remaining c.args.frames.now),
+      wrong_end g.I.Read.remaining c.args.frames.now c.take_next.new.clients c.in-Some.frame.head c.in-Some.frame.bytes.now c.in-Some.frame.length c.in-Some.ensures.some.1 x.1,
+    )
 
 pub returns-in-Some-clause-ok : goal.returns-in-Some-clause-ok
 returns-in-Some-clause-ok g c =
     let text = take c.in-Some.frame.length (bytes_at_hand c.args.frames.now) in
-    let x = frame_noted kept_stays g.met.S.Recording.clocks g.met.S.Recording.lists c.in-Some.frame.head c.in-Some.frame.bytes.now text (rw c.if-not-branch.false at c.in_ok-take_frame.ensures.ok) c.in-Some.ensures.some.1 tt
-    c.note.ensures.noted c.note.ensures.header c.note.ensures.settled in (x.0, text, x.1, c.skip.ensures)
+    let taken = rw c.if-not-branch.false at c.in_ok-take_next.ensures.ok in
+    let x = taken text c.in-Some.ensures.some.1 in (x.0, text, x.1, c.skip.ensures)
 
 pub returns-in_err-flush-clause-err : goal.returns-in_err-flush-clause-err
 returns-in_err-flush-clause-err g c = fails c.from_residual-in_err-flush.result (steps_break kept_stays (flushed kept_stays c.in_ok-round_or_ask.ensures.ok.1 c.flush.ensures.bytes))

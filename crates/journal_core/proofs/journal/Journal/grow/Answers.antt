@@ -1,5 +1,6 @@
 -- Zeros behind the gate, and then a look at the length.
-use Rattle.std.proofs.Common.{refl, ◌+◌, ◌≤◌, None, arith}
+use Rattle.std.proofs.Common.{refl, sym, subst, ◌+◌, ◌≤◌, ℕ, List, length, max, None, arith}
+use Rattle.journal_core.specs.Resting.{disk_behind}
 use Rattle.journal_core.specs.declared.journal.Journal.{Journal}
 use Rattle.journal_core.specs.Private.Looks.{Grows}
 use Rattle.journal_core.proofs.Growing.{grows_on, look_grows}
@@ -29,3 +30,7 @@ returns-clause-grows g c =
       behind = behind_less seen may_leave note (j.at + 8) c.max-from.result j.disk c.lengthen.new.disk low c.lengthen.ensures.behind;
     } in
     grows_on seen may_leave g.D.Disk.is_clean g.D.Disk.faults note j mid c.measure.new.self first (look_grows seen may_leave g.D.Disk.is_clean g.D.Disk.faults note mid c.measure.new.self c.measure.ensures.same c.measure.ensures.looks)
+
+pub returns-clause-most : goal.returns-clause-most
+returns-clause-most g c =
+    subst (λ (l : List ℕ). length l ≤ max (length (g.D.Disk.seen (disk_behind c.args.self.now))) c.args.to) (sym c.measure.ensures.looks.same) c.lengthen.ensures.most

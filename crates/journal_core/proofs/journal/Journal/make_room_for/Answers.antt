@@ -1,5 +1,5 @@
 -- A look at the length, and then the file grows where it is too short.
-use Rattle.std.proofs.Common.{IsTrue, ap, Bool, leb, length, ◌+◌, is_some, ◌≡◌, ◌≤◌, ℕ, true, Ok, Result, inl, refl, sym, subst, ◌∙◌, false, arith}
+use Rattle.std.proofs.Common.{IsTrue, ap, Bool, leb, length, max, List, Option, ◌+◌, is_some, ◌≡◌, ◌≤◌, ℕ, true, Ok, Result, inl, refl, sym, subst, ◌∙◌, false, arith}
 use Rattle.std.proofs.lemmas.Bool.{false≢true}
 use Rattle.std.proofs.lemmas.Result.{IfOk-at_ok, IfOk-from_err}
 use Rattle.std.specs.Prelude.{IfOk, OnOk, Some}
@@ -12,6 +12,7 @@ use Rattle.journal_core.specs.Private.DiskMoments.{goes_not, none}
 use Rattle.journal_core.specs.Clocked.{CrashLeaves}
 use Rattle.journal_core.specs.Format.{StandsFor}
 use Rattle.journal_core.specs.LiveCopies.{MayStep}
+use Rattle.journal_core.specs.MadeRoom.{made_room, spare_room}
 use Rattle.journal_core.specs.declared.error.JournalError.TheVariants.{NotOpen}
 use Rattle.journal_core.proofs.Causes.{room_cause_of, some_at}
 use borrow.Author.Tests.{leb-true}
@@ -25,6 +26,13 @@ is_enough : (wanted len : ℕ) → ◌≡◌ {A = Result Bool JournalError} (Ok 
 is_enough wanted len is =
     let inner : leb wanted len ≡ true = cc in
     leb-true wanted len inner
+
+-- no more is made than is asked for, or is spare
+grown_most : {D B : Type 0} (seen : D → List ℕ) (j k l : Journal D B) (bytes : ℕ) (free : Option ℕ) (spare room : ℕ) → seen (disk_behind k) ≡ seen (disk_behind j) → k.at ≡ j.at → spare ≡ spare_room k.at free → room ≡ max bytes spare
+    → length (seen (disk_behind l)) ≤ max (length (seen (disk_behind k))) (k.at + 32 + room) → length (seen (disk_behind l)) ≤ max (length (seen (disk_behind j))) (j.at + (32 + made_room j.at free bytes))
+grown_most seen j k l bytes free spare room same gate is most within =
+    let so = most ∙ ap (max bytes) (is ∙ ap (λ (n : ℕ). spare_room n free) gate) in
+    omega (arith, ap (λ (l : List ℕ). length l) same, gate, so, within)
 
 pub returns-in_err-len-clause-steps : goal.returns-in_err-len-clause-steps
 returns-in_err-len-clause-steps g c = λ records it.
@@ -456,3 +464,19 @@ returns-clause-room g c = λ is records it clean.
           (subst (λ n. Long c.measure.new.self n) (sym w.len-is) (c.measure.ensures.same.at, some_at _ c.measure.new.self.len c.in_ok-len.len (c.measure.ensures.looks.knows it.knows) (IfOk-at_ok _ measured c.measure.ensures.len)))
     ] in
     omega (arith, is_enough (j.at + 32 + c.args.bytes) c.if-len-wanted.len is, long.0, long.1 clean)
+
+pub returns-in_err-len-2-clause-most : goal.returns-in_err-len-2-clause-most
+returns-in_err-len-2-clause-most g c =
+    grown_most g.D.Disk.seen c.args.self.now c.measure.new.self c.grow.new.self c.args.bytes c.args.free _ _ c.measure.ensures.looks.same c.measure.ensures.same.at c.spare_room.ensures c.max-room.ensures c.grow.ensures.most
+
+pub returns-clause-most : goal.returns-clause-most
+returns-clause-most g c =
+    let seen = g.D.Disk.seen in
+    let j = c.args.self.now in
+    let Within : Journal g.row.D.Denot g.row.B.Denot → Type 0 = λ k. length (seen (disk_behind k)) ≤ max (length (seen (disk_behind j))) (j.at + (32 + made_room j.at c.args.free c.args.bytes)) in
+    let within : Within c.if-len-wanted.self = elim c.if-len-wanted.branch [
+      | then-len-wanted+in_ok-len-2 w ↦
+          subst Within (sym w.self-is) (grown_most seen j c.measure.new.self w.grow.new.self c.args.bytes c.args.free _ _ c.measure.ensures.looks.same c.measure.ensures.same.at w.spare_room.ensures w.max-room.ensures w.grow.ensures.most)
+      | else-len-wanted w ↦ subst Within (sym w.self-is) (subst (λ (l : List ℕ). length l ≤ max (length (seen (disk_behind j))) (j.at + (32 + made_room j.at c.args.free c.args.bytes))) (sym c.measure.ensures.looks.same) (omega arith))
+    ] in
+    within

@@ -98,7 +98,7 @@ pub struct Manner {
     /// What is free on the disk of the store, where the program has one.
     pub space: Option<Space>,
     pub lease: Option<Lease>,
-    /// With --wait. There are no listeners then before the program serves.
+    /// With --wait or --lease. There are no listeners then before the program serves.
     pub standby: Option<Standby>,
 }
 

@@ -1,4 +1,4 @@
-//! With --wait: clients get in only while the program serves, and whoever started this is told whether it does.
+//! With --wait or --lease: clients get in only while the program serves, and whoever started this is told whether it does.
 use crate::addresses::{Asked, Listener};
 use crate::fault::Fault;
 use crate::notify::notify;

@@ -8,24 +8,12 @@ import subprocess
 import time
 
 from frames import READY, frame, request
-from records import draft_of
+from records import draft_of, gates_of, number
 
 # So many copies that end somewhere are adopted.
 CUT = 30
 # So often one end of a pipe is killed.
 KILLS = 12
-
-
-def number(value):
-    return struct.pack("<Q", value)
-
-
-def gates_of(content):
-    """Where the gates are of a whole store, from the first to the one that is shut."""
-    gates = [56]
-    while content[gates[-1] : gates[-1] + 8] != b"shutgate":
-        gates.append(gates[-1] + 24 + struct.unpack_from("<Q", content, gates[-1] + 8)[0])
-    return gates
 
 
 def folders(record_of, count, first=0, moment=10000):

@@ -32,6 +32,16 @@ PACKAGES = {
 FOLDERS = ["/usr/sbin", "/sbin", "/usr/libexec", "/usr/lib/gvfs"]
 
 
+def content_of(path):
+    with open(path, "rb") as file:
+        return file.read()
+
+
+def put(path, content):
+    with open(path, "wb") as file:
+        file.write(content)
+
+
 def stop(why):
     """Ends with status 2."""
     print(why.strip(), file=sys.stderr)

@@ -33,6 +33,14 @@ def folder(path):
     return b"/" + b"".join(name + b"/" for name in path)
 
 
+def gates_of(content):
+    """Where the gates are of a whole store, from the first to the one that is shut."""
+    gates = [56]
+    while content[gates[-1] : gates[-1] + 8] != b"shutgate":
+        gates.append(gates[-1] + 24 + struct.unpack_from("<Q", content, gates[-1] + 8)[0])
+    return gates
+
+
 class Record:
     """The record of one request."""
 

@@ -10,6 +10,7 @@ It runs what was proved on this machine, or else the release in this repository.
 
   --store FILE                    the file that keeps what is put, through any crash; it is made where it isn't there. What it keeps stands in memory, too
   --existing                      FILE has to be there: no new one is made (bin/davstore FILE new makes one)
+  --began NANOSECONDS             FILE has to be that of the store that began at this moment, as bin/davstore FILE check tells it
   --lease SECONDS                 where machines share FILE: no other one serves it within so many seconds, 1 to 60, of when it was last seen that this one may write it; clients get in only while it is served. Not with sockets that are handed over
   --sync always|second            when FILE has what is changed: before an answer tells of it, as without this; or once a second, so that a crash takes at most the last second's changes
   --compact-over BYTES            at the start FILE is written anew where it has more bytes than that, 67108864 without this,

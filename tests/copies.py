@@ -7,6 +7,7 @@ import struct
 import subprocess
 import time
 
+from disks import Disk, calls_of, tracer
 from frames import READY, frame, request
 from records import draft_of, gates_of, number
 
@@ -322,7 +323,40 @@ def taken(stores, record_of, copy, content, gates, stream):
     yield "a draft that was left is removed, and another file stays", take(stream)[::2] == (0, shut(content[:size])) and not os.path.exists(draft) and os.path.getsize(f"{copy}.new") == 56
     os.remove(f"{copy}.new")
     yield from together(stores, copy, stream, shut(content[:size]))
+    yield from at_once(stores, copy, content, gates)
     yield from others(stores, record_of, take, copy, content, gates, stream)
+
+
+def at_once(stores, copy, content, gates):
+    """Rounds that have come together are added at once: that takes as many syncs as one of them, and a crash leaves all of them or none."""
+    library, trace = tracer(os.path.dirname(copy)), f"{copy}.trace"
+    has, size = gates[1], gates[-1]
+    before, whole = content[:has] + b"shutgate", content[:size] + b"shutgate"
+
+    def traced(end, **environment):
+        """The calls on the copy while rounds up to this byte are taken behind the first one, and what take ended with."""
+        with open(copy, "wb") as file:
+            file.write(before)
+        given = content[:56] + number(has) + content[has:end]
+        run = subprocess.run([stores.davstore, copy, "take"], input=given, capture_output=True, env={**os.environ, "LD_PRELOAD": library, "TRACE": trace, **environment}, timeout=60, check=False)
+        calls = [call for call in calls_of(trace) if call.inode == os.stat(copy).st_ino]
+        os.remove(trace)
+        with open(copy, "rb") as file:
+            return calls, run.returncode, file.read()
+
+    syncs = lambda calls: sum(call.kind == b"s" for call in calls)
+    one, all_of_them = traced(gates[2]), traced(size)
+    yield "all rounds that come are added", all_of_them[1:] == (0, whole) and one[1:] == (0, content[: gates[2]] + b"shutgate")
+    yield f"by {syncs(all_of_them[0])} syncs, as many as one", syncs(one[0]) == syncs(all_of_them[0]) > 1
+    disk, chance, left = Disk(before), random.Random(3), set()
+    for call in all_of_them[0]:
+        disk.take(call)
+        left |= {len(gates_of(image)) - 1 for image in disk.images(chance, 40)}
+    yield f"a crash leaves one round or all: {sorted(left)}", left == {1, len(gates) - 1}
+    for place in range(1, syncs(all_of_them[0]) + 1):
+        _, status, after = traced(size, FAIL=f"{place}:5")
+        yield f"sync {place} fails", status == 3 and len(gates_of(after)) - 1 in (1, len(gates) - 1)
+    os.remove(library)
 
 
 def together(stores, copy, stream, whole):

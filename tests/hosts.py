@@ -1,4 +1,4 @@
-"""Three hosts with a volume of GlusterFS on one machine, for tests/machines: each has a network, mounts and processes of its own, in namespaces.
+"""Three hosts with a volume of GlusterFS on one machine, for tests/machines and bench/machines: each has a network, mounts and processes of its own, in namespaces.
 
 Who uses this is in namespaces of its own, too, so that all that was started ends with it. No address leads outside.
 """
@@ -7,7 +7,10 @@ import os
 import shlex
 import signal
 import subprocess
+import sys
 import time
+
+from programs import is_there
 
 TOP = os.path.join(os.path.dirname(os.path.abspath(__file__)), "..")
 DEPLOY = os.path.join(TOP, "deploy", "machines")
@@ -30,6 +33,22 @@ exec env --ignore-signal=CHLD sleep infinity
 """
 
 
+def lacking(*others):
+    """What isn't there that such hosts need, or one of the others; none where all is."""
+    needed = ("/dev/fuse", "ip", "unshare", "nsenter", "setpriv", "glusterd", "gluster", "glusterfs", *others)
+    return "root" if os.geteuid() else next((name for name in needed if not is_there(name)), None)
+
+
+def go_apart():
+    """Goes on in namespaces of its own: all that is started ends with these, however that comes."""
+    if os.environ.get("TESTS_ARE") != "apart":
+        os.environ["TESTS_ARE"] = "apart"
+        # The shell is there to take what has ended and has no parent any more, as what davfs2 leaves.
+        os.execvp("unshare", ["unshare", "--mount", "--net", "--pid", "--fork", "--kill-child", "--mount-proc", "sh", "-c", '"$@"; exit $?', "sh", sys.executable, *sys.argv])
+    signal.signal(signal.SIGTERM, lambda *_: sys.exit(1))
+    call("ip", "link", "set", "lo", "up")
+
+
 def call(*words, check=True, given=""):
     ran = subprocess.run([str(word) for word in words], input=given, stdout=subprocess.PIPE, stderr=subprocess.STDOUT, text=True, timeout=120, check=False)
     if check and ran.returncode:
@@ -37,12 +56,19 @@ def call(*words, check=True, given=""):
     return ran.stdout
 
 
-def until(holds, seconds=60):
+def comes(holds, seconds=60):
+    """Whether something holds within so many seconds."""
     end = time.monotonic() + seconds
     while not holds():
         if time.monotonic() > end:
-            raise RuntimeError(f"it never comes: {holds}")
+            return False
         time.sleep(0.1)
+    return True
+
+
+def until(holds, seconds=60):
+    if not comes(holds, seconds):
+        raise RuntimeError(f"it never comes: {holds}")
 
 
 def deployed(name):
@@ -62,7 +88,6 @@ class Hosts:
 
     def begin(self):
         """The network, the hosts and the volume, by the commands of docs/MACHINES.md."""
-        call("ip", "link", "set", "lo", "up")
         call("ip", "link", "add", "switch", "type", "bridge", "forward_delay", "0")
         call("ip", "addr", "add", CLIENT + "/24", "dev", "switch")
         call("ip", "link", "set", "switch", "up")
@@ -111,8 +136,19 @@ class Hosts:
     def start(self, host, *words, output=subprocess.DEVNULL):
         return subprocess.Popen([*self.enter(host), *words], stdin=subprocess.DEVNULL, stdout=output, stderr=output)
 
+    def begin_to_tell(self, host, *words):
+        """Starts what tells something on its standard output."""
+        return subprocess.Popen([*self.enter(host), *words], stdin=subprocess.DEVNULL, stdout=subprocess.PIPE, text=True)
+
     def gluster(self, *words, check=True):
         return self.run(next(iter(self.first)), "gluster", "--mode=script", *words, check=check)
+
+    def heal_info(self):
+        return self.gluster("volume", "heal", VOLUME, "info", check=False)
+
+    def is_healed(self):
+        """Whether no brick lacks anything."""
+        return self.heal_info().count("Status: Connected\nNumber of entries: 0\n") == len(HOSTS)
 
     def mount(self, host):
         self.run(host, *command_of("dav-volume.service"))
@@ -123,6 +159,15 @@ class Hosts:
             self.run(host, "umount", MOUNT)
             time.sleep(1)
             self.mount(host)
+
+    def set_strict(self, value):
+        """Whether a host that has lost its lock may no longer write."""
+        if self.option("client.strict-locks") != value:
+            self.gluster("volume", "set", VOLUME, "client.strict-locks", value)
+            self.mount_anew()
+
+    def option(self, name):
+        return self.gluster("volume", "get", VOLUME, name).split()[-1]
 
     def pids(self, host, *names):
         """Processes of a host by their names."""

@@ -154,6 +154,25 @@ def users(listen, _):
             yield "users: a clean end", it.end() == 0
 
 
+def readers(listen, _):
+    """A file of users that everyone may read is told, unless its folder keeps others out."""
+    with tempfile.TemporaryDirectory() as folder:
+        path = os.path.join(folder, "users")
+        write(path, USERS)
+        os.chmod(folder, 0o711)
+        os.chmod(path, 0o644)
+        line, again = f"everyone on this machine may read the users {path}: chmod o-r", "a hang-up has changed nothing"
+        with listening(listen, users=path) as it:
+            yield "users that everyone may read are told at the start", it.told().count(line) == 1
+            for what, folder_mode, mode, wanted in (("again", 0o711, 0o644, 2), ("and not once they are the group's", 0o711, 0o640, 2), ("nor in a folder that keeps others out", 0o750, 0o644, 2), ("nor where others may only write them", 0o755, 0o602, 2)):
+                os.chmod(folder, folder_mode)
+                os.chmod(path, mode)
+                before = it.told().count(again)
+                it.signal(signal.SIGHUP)
+                yield f"on a hang-up {what}", until(lambda: it.told().count(again) > before) and it.told().count(line) == wanted
+            yield "readers: a clean end", it.end() == 0
+
+
 def changes(path):
     """What makes a file that can't be read, one behind another."""
     yield "a file that is gone", lambda: os.remove(path)

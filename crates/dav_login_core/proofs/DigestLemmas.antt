@@ -1,15 +1,17 @@
 -- What is kept among digests.
-use Rattle.std.proofs.Common.{◌≡◌, ◌&&◌, ◌||◌, ℕ, Bool, true, false, List, [], ◌∷◌, ◌++◌, Option, Some, None, All, refl, sym, ap, subst, ◌∙◌, nat_eq, string_bytes, inl, inr, if◌then◌else◌}
+use Rattle.std.proofs.Common.{◌≡◌, ◌<◌, ◌≤◌, ◌&&◌, ◌||◌, ℕ, suc, Bool, true, false, List, [], ◌∷◌, ◌++◌, length, take, drop, Option, Some, None, All, refl, sym, ap, subst, ◌∙◌, nat_eq, string_bytes, inl, inr, if◌then◌else◌}
 use Rattle.std.proofs.Math.Logic.{∥∥₁_map}
-use Rattle.std.proofs.lemmas.Bool.{false≢true}
+use Rattle.std.proofs.lemmas.Bool.{false≢true, le-leb, lt-leb}
 use Rattle.std.proofs.lemmas.Grind.{merely}
-use Rattle.std.proofs.lemmas.List.Elements.{All-head, All-push, All-tail}
+use Rattle.std.proofs.lemmas.List.Elements.{All-append, All-drop, All-head, All-push, All-tail, All-take}
+use Rattle.std.specs.Prelude.{remove}
 use Rattle.std.specs.List.{list_any}
 use Rattle.std.specs.Option.{option_to_list}
 use Rattle.std.specs.Cmp.Lexicographic.{pointwise, same_text}
 use Rattle.dav_login_core.specs.declared.known.Known.{Known}
 use Rattle.dav_users_core.specs.Users.{UserLine, is_password}
-use Rattle.dav_login_core.specs.Digests.{ForgetsSome, Learns, WasAccepted, WasAcceptedOf, WasRefused, digest, is_known}
+use Rattle.dav_login_core.specs.Friends.{LetsIn, without_label}
+use Rattle.dav_login_core.specs.Digests.{Learns, NotesRefused, room_for_one, WasAccepted, WasAcceptedOf, WasRefused, digest, is_known}
 
 -- what follows from one that passes, and holds of each, holds where any passes
 pub holds_of_any : {X : Type 0} (P : X → Type 0) (test : X → Bool) (Q : Type 0) → ((x : X) → test x ≡ true → P x → Q) → (xs : List X) → All P xs
@@ -43,16 +45,27 @@ pub all_pushed : {X : Type 0} (P : X → Type 0) (is_kept : Bool) (xs all : List
 all_pushed P true xs all x e h one = subst (All P) (sym e) (All-push P xs x h one)
 all_pushed P false xs all x e h one = subst (All P) (sym e) h
 
--- the first is gone, if there is one
-pub forgets_first : (first : Option Known) (xs all : List Known) → all ≡ option_to_list first ++ xs → ForgetsSome all xs
-forgets_first None xs all e = inl (sym e)
-forgets_first (Some x) xs all e = inr (x, e)
+-- the first is gone where there are 1,024
+pub room_made : {X : Type 0} (xs all : List X) → xs ≡ drop 1 all → 1024 ≤ length all → xs ≡ room_for_one all
+room_made xs all e many = e ∙ sym (ap (λ (t : Bool). if t then drop 1 all else all) (le-leb 1024 (length all) many))
 
--- one is learned, if there is room
-pub learns_one : (is_kept : Bool) (old rest new : List Known) (k : Known) → ForgetsSome old rest → new ≡ (if is_kept then rest ++ k ∷ [] else rest)
-    → Learns k.digest old new
-learns_one true old rest new k forgets e = record { rest = rest; forgets = forgets; adds = inr (k, refl, e) }
-learns_one false old rest new k forgets e = record { rest = rest; forgets = forgets; adds = inl e }
+pub room_there : {X : Type 0} (all : List X) → length all < 1024 → all ≡ room_for_one all
+room_there all few = ap (λ (t : Bool). if t then drop 1 all else all) (sym (lt-leb 1024 (length all) few))
+
+-- one is learned, if there is memory
+pub learns_one : (is_kept : Bool) (old rest new : List Known) (k : Known) → rest ≡ room_for_one old → new ≡ (if is_kept then rest ++ k ∷ [] else rest) → Learns k.digest old new
+learns_one true old rest new k room e = inr (k, refl, e ∙ ap (λ (r : List Known). r ++ k ∷ []) room)
+learns_one false old rest new k room e = inl (e ∙ room)
+
+-- and noted
+pub notes_one : (is_kept : Bool) (old rest new : List (ℕ × List ℕ)) (label : ℕ) (d : List ℕ) → rest ≡ room_for_one old
+    → new ≡ (if is_kept then rest ++ (label, d) ∷ [] else rest) → NotesRefused label d old new
+notes_one true old rest new label d room e = inr (e ∙ ap (λ (r : List (ℕ × List ℕ)). r ++ (label, d) ∷ []) room)
+notes_one false old rest new label d room e = inl (e ∙ room)
+
+-- what holds of each holds where one is taken out
+pub all_removed : {X : Type 0} (P : X → Type 0) (i : ℕ) (xs new : List X) → new ≡ remove xs i → All P xs → All P new
+all_removed P i xs new e all = subst (All P) (sym e) (All-append P (take i xs) (drop (suc i) xs) (All-take P i xs all) (All-drop P (suc i) xs all))
 
 -- ---- what is known was accepted
 
@@ -78,3 +91,11 @@ pub digest_of_bytes : (key name name' password password' d : List ℕ) → d ≡
     → d ≡ digest key name password
 digest_of_bytes key name name' password password' d e same_name same_password =
     e ∙ ap (λ (n : List ℕ). digest key n password') same_name ∙ ap (λ (p : List ℕ). digest key name p) same_password
+
+-- ---- one was let in
+
+pub lets_in : (is_kept : Bool) (old without rest new : List (ℕ × ℕ)) (label now : ℕ) → without ≡ without_label label old → rest ≡ room_for_one without
+    → new ≡ (if is_kept then rest ++ (label, now) ∷ [] else rest) → LetsIn label now old new
+lets_in true old without rest new label now taken room e =
+    inr (e ∙ ap (λ (r : List (ℕ × ℕ)). r ++ (label, now) ∷ []) (room ∙ ap room_for_one taken))
+lets_in false old without rest new label now taken room e = inl (e ∙ room ∙ ap room_for_one taken)

@@ -2,6 +2,7 @@ pub mod DigestLemmas
 pub mod LastLemmas
 pub mod LoginLemmas
 pub mod MessageLemmas
+pub mod NetworkLemmas
 pub mod Rates
 pub mod RealmLemmas
 pub mod RetainLemmas

@@ -1,5 +1,5 @@
 -- What a login answers, by cases.
-use Rattle.std.proofs.Common.{◌≡◌, ◌⊎◌, ℕ, false, List, [], ◌∷◌, codes, Option, Some, None, MatchOption, Result, Ok, sym, ap, subst, ◌∙◌, inl, inr}
+use Rattle.std.proofs.Common.{◌≡◌, ◌⊎◌, ℕ, Bool, false, List, [], ◌∷◌, codes, Option, Some, None, MatchBool, Result, Ok, sym, ap, subst, ◌∙◌, inl, inr}
 use Rattle.std.specs.declared.alloc.AllocError.{AllocError}
 use Rattle.std.proofs.lemmas.Option.{none-some, same_Some}
 use Rattle.http_header.specs.FieldValue.{FieldValue, IsFieldValue}
@@ -12,9 +12,11 @@ use Rattle.dav_users_core.specs.Basic.{NameAndPassword}
 use Rattle.dav_users_core.specs.Users.{UserLine}
 use Rattle.dav_login_core.specs.declared.admitting.Admitted.{Admitted}
 use Rattle.dav_login_core.specs.declared.known.Known.{Known}
-use Rattle.dav_login_core.specs.Admissions.{AreSent, IsFoundToBe}
-use Rattle.dav_login_core.specs.Digests.{IsAccepted, IsTurnedDown, Learns, digest, is_known}
-use Rattle.dav_login_core.specs.LoggedIn.{Door, HasToLogIn, IsNotKnown, IsUsers, LoggedIn, LoginState, StaysOrLearns, TurnsAway}
+use Rattle.dav_login_core.specs.declared.known.Lesson.{Lesson}
+use Rattle.dav_login_core.specs.declared.known.Lesson.TheVariants.{Nothing, Used, New}
+use Rattle.dav_login_core.specs.Admissions.{IsFoundToBe, IsLessonOf, LearnsBy, MayLearn}
+use Rattle.dav_login_core.specs.Digests.{IsAccepted, IsTurnedDown, Learns, Remembers, digest, is_known, moved_to_end}
+use Rattle.dav_login_core.specs.LoggedIn.{Door, HasToLogIn, IsNotKnown, IsUsers, LoggedIn, LoginState, KeepsInMind, TurnsAway}
 use Rattle.dav_login_core.specs.Passing.{AsUser}
 use Rattle.dav_login_core.specs.Sending.{AsksOptions, given_in_field, only, name_and_password_sent}
 
@@ -53,6 +55,12 @@ module _ {S : Type 0} (old new : LoginState S) (request : Request (List ℕ)) (r
     stays = stays;
   }
 
+-- what is learned of a request may be
+pub may_learn : (door : Door) (known : List Known) (request : Request (List ℕ)) (lesson : Lesson) → IsLessonOf door known request lesson → MayLearn door lesson
+may_learn door known request Nothing is = tt
+may_learn door known request (Used kept) is = tt
+may_learn door known request (New k) is = is.0
+
 -- it is a user's request
 pub users_request : (door : Door) (request inner : Request (List ℕ)) (given : NameAndPassword) → name_and_password_sent (head_of request).headers ≡ Some given
     → IsAccepted door.users door.key given.name given.password → AsUser door.header given.name request inner → IsUsers door request inner
@@ -73,28 +81,31 @@ same_state {S} users users' challenge header address_field key key' known known'
     ∙ ap (λ (k : List Known). (let s : LoginState S = record { door = record { users = users; challenge = challenge; header = header; address_field = address_field; key = key }; known = k; service = service } in s)) knows
 
 module _ {S : Type 0} (answers : S → Request (List ℕ) → Response → S → Type 0) (old mid new : LoginState S) (request : Request (List ℕ)) (response : Response) where
-  stays_or_learns : mid ≡ old → (o : Option Known) → AreSent old.door request o → MatchOption o (new.known ≡ mid.known) (λ k. Learns k.digest mid.known new.known)
-      → StaysOrLearns old.door request old.known new.known
-  stays_or_learns same None sent e = inl (e ∙ ap (λ (l : LoginState S). l.known) same)
-  stays_or_learns same (Some k) sent l =
-      inr (
-        sent.0,
-        sent.1,
-        subst (λ (d : List ℕ). Learns d old.known new.known) sent.2
-            (subst (λ (s : LoginState S). Learns k.digest s.known new.known) same l),
-      )
+  -- what was sent is remembered by the lesson
+  remembers : (known : List Known) → known ≡ old.known → (lesson : Lesson) → IsLessonOf old.door old.known request lesson → LearnsBy lesson known new.known
+      → KeepsInMind old.door request old.known new.known
+  remembers known same Nothing sent learned = inl (sent, learned ∙ same)
+  remembers known same (Used kept) is learned =
+      let by_kept : Remembers kept old.known new.known = subst (λ (b : Bool). MatchBool b (new.known ≡ moved_to_end kept old.known) (Learns kept old.known new.known)) (sym is.3)
+      (learned ∙ ap (moved_to_end kept) same) in
+      inr (is.0, is.1, subst (λ (d : List ℕ). Remembers d old.known new.known) is.2 by_kept)
+  remembers known same (New k) is learned =
+      let by_kept : Remembers k.digest old.known new.known =
+      subst (λ (b : Bool). MatchBool b (new.known ≡ moved_to_end k.digest old.known) (Learns k.digest old.known new.known)) (sym is.1.3)
+      (subst (λ (ks : List Known). Learns k.digest ks new.known) same learned) in
+      inr (is.1.0, is.1.1, subst (λ (d : List ℕ). Remembers d old.known new.known) is.1.2 by_kept)
 
   -- the service answered what was let in, and this was learned
-  pub served : (admitted : Admitted) (service : S) → IsFoundToBe old.door request admitted → mid ≡ old → answers mid.service admitted.inner response service
+  pub served : (admitted : Admitted) (service : S) → IsFoundToBe old.door old.known request admitted → mid ≡ old → answers mid.service admitted.inner response service
       → new.service ≡ service → new.door ≡ mid.door
-      → MatchOption admitted.learned (new.known ≡ mid.known) (λ k. Learns k.digest mid.known new.known) → LoggedIn answers old request response new
+      → LearnsBy admitted.lesson mid.known new.known → LoggedIn answers old request response new
   served admitted service is same answered serves door knows = record {
     answer = inr (record {
       inner = admitted.inner;
       passed = is.passed;
       answered = subst (λ (s : S). answers old.service admitted.inner response s) (sym serves)
           (subst (λ (l : LoginState S). answers l.service admitted.inner response service) same answered);
-      known = stays_or_learns same admitted.learned is.sent knows;
+      known = remembers mid.known (ap (λ (l : LoginState S). l.known) same) admitted.lesson is.lesson knows;
     });
     door = door ∙ ap (λ (l : LoginState S). l.door) same;
   }

@@ -4,10 +4,12 @@ pub mod Challenges
 pub mod Checking
 pub mod ClientAddresses
 pub mod Digests
+pub mod Friends
 pub mod GuessRuns
 pub mod Guessing
 pub mod LoggedIn
 pub mod LoginViews
+pub mod Networks
 pub mod Passing
 pub mod Private
 pub mod RunsBehind

@@ -1,5 +1,5 @@
 -- What a login answers, in front of a service (RFC 7617 section 2, RFC 9110 section 11.6, RFC 6585 section 4; OPTIONS: own).
-use Rattle.std.specs.Prelude.{◌≡◌, ◌⊎◌, ℕ, false, List, [], ◌∷◌, codes, string_bytes, Option, Some, Ok}
+use Rattle.std.specs.Prelude.{◌≡◌, ◌⊎◌, ℕ, false, List, [], ◌∷◌, codes, string_bytes, Option, None, Some, Ok}
 use Rattle.http_header.specs.FieldValue.{IsFieldValue}
 use Rattle.http.specs.declared.request.Request.{Request}
 use Rattle.http.specs.Request.{head_of}
@@ -8,7 +8,7 @@ use Rattle.http_server.specs.Response.{IsResponse}
 use Rattle.dav_users_core.specs.Basic.{NameAndPassword}
 use Rattle.dav_users_core.specs.Users.{UserLine, hash_named, users_of}
 use Rattle.dav_login_core.specs.declared.known.Known.{Known}
-use Rattle.dav_login_core.specs.Digests.{IsAccepted, IsTurnedDown, Learns, Retains, digest, is_known}
+use Rattle.dav_login_core.specs.Digests.{IsAccepted, IsTurnedDown, Remembers, Retains, digest, is_known}
 use Rattle.dav_login_core.specs.Passing.{AsNobody, AsUser}
 use Rattle.dav_login_core.specs.Sending.{AsksOptions, name_and_password_sent}
 
@@ -72,12 +72,12 @@ IsNotKnown door known request =
     (given : NameAndPassword) → name_and_password_sent (head_of request).headers ≡ Some given
     → is_known known (digest door.key given.name given.password) ≡ false
 
--- what is known stays, or what was sent is known, too
-abbrev pub StaysOrLearns : Door → Request (List ℕ) → List Known → List Known → Type 0
-StaysOrLearns door request old new =
-    (new ≡ old)
+-- what is known stays, where nothing is sent, and else what was sent is remembered
+abbrev pub KeepsInMind : Door → Request (List ℕ) → List Known → List Known → Type 0
+KeepsInMind door request old new =
+    ((name_and_password_sent (head_of request).headers ≡ None) × (new ≡ old))
     ⊎ ((given : NameAndPassword) × (name_and_password_sent (head_of request).headers ≡ Some given)
-    × Learns (digest door.key given.name given.password) old new)
+    × Remembers (digest door.key given.name given.password) old new)
 
 module _ {S : Type 0} (old : LoginState S) (request : Request (List ℕ)) (response : Response) (new : LoginState S) where
   -- It is refused, and the service stays as it is, and what is known. It is held back only where what it sends is not known.
@@ -90,7 +90,7 @@ module _ {S : Type 0} (old : LoginState S) (request : Request (List ℕ)) (respo
     pub inner : Request (List ℕ)
     pub passed : IsPassedOn old.door request inner
     pub answered : answers old.service inner response new.service
-    pub known : StaysOrLearns old.door request old.known new.known
+    pub known : KeepsInMind old.door request old.known new.known
 
 module _ {S : Type 0} where
   -- the request is refused or served, and the login goes by the same as before

@@ -4,6 +4,7 @@ ghost use Rattle.http.specs.Request.{head_of};
 ghost use Rattle.http_server.specs.Response.{IsBlank, IsResponse};
 ghost use Rattle.dav_users_core.specs.Basic.{name_and_password_of};
 ghost use Rattle.dav_login_core.specs.Admissions.{IsFoundToBe, WeighsUp};
+ghost use Rattle.dav_login_core.specs.Checking.{label_of_client};
 ghost use Rattle.dav_login_core.specs.LoggedIn.{TurnsAway};
 ghost use Rattle.dav_login_core.specs.LoginViews.{login};
 ghost use Rattle.dav_login_core.specs.Sending.{name_and_password_sent};
@@ -11,8 +12,10 @@ ghost use Rattle.dav_login_core.specs.Digests.{digest};
 ghost use Rattle.dav_login_core.specs.declared.admitting.Admitted.{Admitted};
 
 use crate::checking::Verdict;
-use crate::known::Known;
+use crate::known::{Known, Lesson};
+use crate::labels::label_of;
 use crate::login::Login;
+use crate::networks::network_of;
 use crate::passing::{as_nobody, as_user};
 use crate::sending::{asks_options, credentials_of};
 use crate::watching::Host;
@@ -28,7 +31,7 @@ use std::alloc::AllocError;
 #[derive(Drop)]
 pub(crate) struct Admitted {
     pub(crate) inner: Request<Bytes>,
-    pub(crate) learned: Option<Known>,
+    pub(crate) lesson: Lesson,
 }
 
 impl<S, H: Host> Login<S, H> {
@@ -39,7 +42,7 @@ impl<S, H: Host> Login<S, H> {
         response: &mut Response,
     ) -> Result<Option<Admitted>, AllocError>
         requires { IsBlank response.old }
-        ensures some { (admitted : Admitted) → result ≡ Ok (Some admitted) → IsFoundToBe (login self.old).door request.now admitted }
+        ensures some { (admitted : Admitted) → result ≡ Ok (Some admitted) → IsFoundToBe (login self.old).door (login self.old).known request.now admitted }
         ensures same { (admitted : Admitted) → result ≡ Ok (Some admitted) → self.new ≡ self.old }
         ensures blank { (admitted : Admitted) → result ≡ Ok (Some admitted) → IsBlank response.new }
         ensures none { result ≡ Ok None → TurnsAway (login self.old) request.now response.new (login self.new) }
@@ -59,7 +62,7 @@ impl<S, H: Host> Login<S, H> {
     ) -> Result<Option<Admitted>, AllocError>
         requires blank { IsBlank response.old }
         requires unsigned { name_and_password_sent (head_of request.now).headers ≡ None }
-        ensures some { (admitted : Admitted) → result ≡ Ok (Some admitted) → IsFoundToBe (login self.now).door request.now admitted }
+        ensures some { (admitted : Admitted) → result ≡ Ok (Some admitted) → IsFoundToBe (login self.now).door (login self.now).known request.now admitted }
         ensures blank { (admitted : Admitted) → result ≡ Ok (Some admitted) → IsBlank response.new }
         ensures none { result ≡ Ok None → TurnsAway (login self.now) request.now response.new (login self.now) }
     {
@@ -70,7 +73,7 @@ impl<S, H: Host> Login<S, H> {
         let inner = as_nobody(request, &self.header)?;
         Ok(Some(Admitted {
             inner,
-            learned: None,
+            lesson: Lesson::Nothing,
         }))
     }
 
@@ -83,7 +86,7 @@ impl<S, H: Host> Login<S, H> {
     ) -> Result<Option<Admitted>, AllocError>
         requires blank { IsBlank response.old }
         requires is_sent { name_and_password_sent (head_of request.now).headers ≡ Some (name_and_password_of given) }
-        ensures some { (admitted : Admitted) → result ≡ Ok (Some admitted) → IsFoundToBe (login self.old).door request.now admitted }
+        ensures some { (admitted : Admitted) → result ≡ Ok (Some admitted) → IsFoundToBe (login self.old).door (login self.old).known request.now admitted }
         ensures same { (admitted : Admitted) → result ≡ Ok (Some admitted) → self.new ≡ self.old }
         ensures blank { (admitted : Admitted) → result ≡ Ok (Some admitted) → IsBlank response.new }
         ensures none { result ≡ Ok None → TurnsAway (login self.old) request.now response.new (login self.new) }
@@ -100,19 +103,20 @@ impl<S, H: Host> Login<S, H> {
         let digest = self
             .accepted
             .digest(given.name.as_str(), given.password.as_str());
-        match self.weigh(request, &given, digest) {
+        let label = self.label_of(request);
+        match self.weigh(request, &given, digest, label) {
             Standing::Accepted => {
                 let inner = as_user(request, &self.header, value)?;
                 Ok(Some(Admitted {
                     inner,
-                    learned: None,
+                    lesson: Lesson::Used(digest),
                 }))
             }
             Standing::Right => {
                 let inner = as_user(request, &self.header, value)?;
                 Ok(Some(Admitted {
                     inner,
-                    learned: Some(Known {
+                    lesson: Lesson::New(Known {
                         name: given.name,
                         digest,
                     }),
@@ -120,7 +124,7 @@ impl<S, H: Host> Login<S, H> {
             }
             Standing::Wrong => {
                 self.refuse(response)?;
-                self.accepted.note_refused(self.watch.connection(), digest);
+                self.accepted.note_refused(label, digest);
                 Ok(None)
             }
             Standing::Again => {
@@ -134,25 +138,52 @@ impl<S, H: Host> Login<S, H> {
         }
     }
 
-    // What is said of a name and a password with this digest. The password is hashed only where the digest is neither kept of what was accepted nor of what the connection sent in vain, and no
-    // limit of guesses is reached.
-    fn weigh(&mut self, request: &Request<Bytes>, given: &Credentials, sent: [u8; 32]) -> Standing
+    // What is said of a name and a password with this digest, from this label. The password is hashed only where the digest is neither kept of what was accepted nor of what was sent in vain from
+    // the label, and no limit of guesses is reached.
+    fn weigh(
+        &mut self,
+        request: &Request<Bytes>,
+        given: &Credentials,
+        sent: [u8; 32],
+        label: u64,
+    ) -> Standing
         requires { sent ≡ digest self.old.accepted.key (string_bytes given.now.name) (string_bytes given.now.password) }
-        ensures weighs { WeighsUp (login self.old).door (login self.old).known (string_bytes given.now.name) (string_bytes given.now.password) result }
+        ensures weighs { WeighsUp (login self.old).door (login self.old).known self.old.accepted.refused.items label (string_bytes given.now.name) (string_bytes given.now.password) result }
         ensures same { self.new ≡ self.old }
     {
+        let name = given.name.as_str();
         if self.accepted.knows(&sent) {
+            self.note_let_in(request, name);
             return Standing::Accepted;
         }
-        let connection = self.watch.connection();
-        if self.accepted.was_refused(connection, sent) {
+        if self.accepted.was_refused(label, sent) {
             return Standing::Again;
         }
         match self.watch.check(&self.accepted, request, given) {
-            Verdict::Right => Standing::Right,
+            Verdict::Right => {
+                self.note_let_in(request, name);
+                Standing::Right
+            }
             Verdict::Wrong => Standing::Wrong,
             Verdict::TooMany => Standing::TooMany,
         }
+    }
+
+    // Takes word that the user with this name is let in by the request.
+    fn note_let_in(&mut self, request: &Request<Bytes>, name: &str)
+        ensures { self.new ≡ self.old }
+    {
+        self.watch.let_in(&self.accepted, request, name);
+    }
+
+    // The label by which the guesses of the request's client count.
+    fn label_of(&self, request: &Request<Bytes>) -> u64
+        ensures { result ≡ label_of_client self.now.accepted.key self.now.watch request.now }
+    {
+        label_of(
+            &self.accepted.key,
+            network_of(self.watch.address_of(request)),
+        )
     }
 
     // Asks for a name and a password (RFC 9110 section 15.5.2).

@@ -1,11 +1,11 @@
 //! Buckets of guesses.
 ghost use Rattle.std.specs.Prelude.{◌≡◌, true};
-ghost use Rattle.dav_login_core.specs.Guessing.{behind_guess, common_behind_guess, fresh, has_one, has_rested, has_share, may};
+ghost use Rattle.dav_login_core.specs.Guessing.{behind_guess, common_behind_hash, fresh, has_guess, has_half, has_one, has_rested, has_share, may};
 
 /// A second, in nanoseconds.
 const SECOND: u128 = 1_000_000_000;
 
-/// The common bucket gets a guess in so much time.
+/// The common bucket gets one in so much time.
 const SHARE: u128 = 50_000_000;
 
 /// Five guesses, and one more each second (own).
@@ -29,7 +29,11 @@ impl Bucket {
     pub(crate) fn may(self, common: u128, now: u64) -> bool
         ensures { result ≡ may self common now }
     {
-        self.has_rested(now) || (self.has_one(now) && has_share(common, now))
+        if self.has_rested(now) {
+            has_share(common, now)
+        } else {
+            self.has_one(now) && has_half(common, now)
+        }
     }
 
     pub(crate) fn has_rested(self, now: u64) -> bool
@@ -45,8 +49,8 @@ impl Bucket {
     }
 
     /// The bucket behind a wrong guess at this moment.
-    pub(crate) fn behind_guess(self, common: u128, now: u64) -> Bucket
-        requires { may self common now ≡ true }
+    pub(crate) fn behind_guess(self, now: u64) -> Bucket
+        requires { has_guess self now ≡ true }
         ensures { result ≡ behind_guess self now }
     {
         let now = u128::from(now);
@@ -68,13 +72,16 @@ fn has_share(common: u128, now: u64) -> bool
     common <= u128::from(now) + 19 * SHARE
 }
 
-/// When the common bucket is full, behind a wrong guess at this moment.
-pub(crate) fn common_behind_guess(common: u128, now: u64) -> u128
-    ensures { result ≡ common_behind_guess common now }
+fn has_half(common: u128, now: u64) -> bool
+    ensures { result ≡ has_half common now }
 {
-    if has_share(common, now) {
-        common.max(u128::from(now)) + SHARE
-    } else {
-        common.max(u128::from(now) + 20 * SHARE)
-    }
+    common <= u128::from(now) + 10 * SHARE
+}
+
+/// When the common bucket is full, behind a hash at this moment.
+pub(crate) fn common_behind_hash(common: u128, now: u64) -> u128
+    requires { has_share common now ≡ true }
+    ensures { result ≡ common_behind_hash common now }
+{
+    common.max(u128::from(now)) + SHARE
 }

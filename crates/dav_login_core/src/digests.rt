@@ -1,9 +1,9 @@
 //! Names and passwords that were accepted or refused, by their digests under a key.
-ghost use Rattle.std.specs.Prelude.{◌≡◌, ◌<◌, ◌≤◌, ◌++◌, ℕ, List, [], All, IsTrue, string_bytes};
+ghost use Rattle.std.specs.Prelude.{◌≡◌, ◌<◌, ◌≤◌, ◌++◌, ℕ, List, [], All, IsTrue, true, length, string_bytes};
 ghost use Rattle.std.specs.VecDeque.{deque_len};
 ghost use Rattle.sha2.specs.Hashers.{Holds256};
 ghost use Rattle.dav_users_core.specs.Users.{hash_named, users_in};
-ghost use Rattle.dav_login_core.specs.Digests.{ForgetsSome, Learns, Retains, WasAcceptedOf, WasRefused, digest, is_known, with_length};
+ghost use Rattle.dav_login_core.specs.Digests.{Learns, NotesRefused, Retains, WasAcceptedOf, WasRefused, digest, is_known, is_refused, known_place, moved_to_end, room_for_one, with_length};
 
 use crate::known::Known;
 use dav_users_core::Users;
@@ -14,13 +14,13 @@ use std::collections::VecDeque;
 // So many digests are kept of what was accepted, and as many of what was refused.
 const MOST: usize = 1_024;
 
-/// Users, what of theirs was accepted, each once, the newest last, and what a connection sent in vain.
+/// Users, what of theirs was accepted, what was used last at the end, and what was sent in vain.
 #[derive(Drop)]
 pub(crate) struct Accepted {
     pub(crate) users: Users,
     pub(crate) key: [u8; 32],
     pub(crate) known: VecDeque<Known>,
-    // Numbers of connections, each with the digest of what it sent.
+    // Labels of networks, each with the digest of what came from it.
     pub(crate) refused: VecDeque<(u64, [u8; 32])>,
     ghost are_accepted: { All (λ k. WasAcceptedOf (users_in users) key (string_bytes k.name) k.digest) known.items },
     ghost are_refused: { All (λ r. WasRefused (users_in users) key r.1) refused.items },
@@ -62,14 +62,15 @@ impl Accepted {
         self.known.iter().any(|known| known.digest == *digest)
     }
 
-    /// Whether the digest is kept of what this connection sent in vain.
-    pub(crate) fn was_refused(&self, connection: u64, digest: [u8; 32]) -> bool
-        ensures { IsTrue result → WasRefused (users_in self.now.users) self.now.key digest }
+    /// Whether the digest is kept of what was sent in vain from this label.
+    pub(crate) fn was_refused(&self, label: u64, digest: [u8; 32]) -> bool
+        ensures value { result ≡ is_refused self.now.refused.items label digest }
+        ensures refused { IsTrue result → WasRefused (users_in self.now.users) self.now.key digest }
     {
-        self.refused.contains(&(connection, digest))
+        self.refused.contains(&(label, digest))
     }
 
-    /// Keeps what was accepted, and drops the oldest where there are 1,024. It is not kept where there is no memory.
+    /// Keeps what was accepted, and drops the one unused for longest where there are 1,024. It is not kept where there is no memory.
     pub(crate) fn keep(&mut self, accepted: Known)
         requires { WasAcceptedOf (users_in self.old.users) self.old.key (string_bytes accepted.name) accepted.digest }
         ensures users { self.new.users ≡ self.old.users }
@@ -80,27 +81,53 @@ impl Accepted {
         let _kept = self.known.push_back(accepted);
     }
 
-    // Drops the oldest of what was accepted, where there are 1,024.
+    /// Puts what was accepted at the end, where it is known by this digest.
+    pub(crate) fn use_again(&mut self, digest: &[u8; 32])
+        ensures users { self.new.users ≡ self.old.users }
+        ensures key { self.new.key ≡ self.old.key }
+        ensures known { self.new.known.items ≡ moved_to_end digest.now self.old.known.items }
+    {
+        let place = self.place_of(digest);
+        match self.known.remove(place) {
+            Some(known) => {
+                let _kept = self.known.push_back(known);
+            }
+            None => {}
+        }
+    }
+
+    // How many stand before the first of this digest.
+    fn place_of(&self, digest: &[u8; 32]) -> usize
+        ensures { result ≡ known_place self.now.known.items digest.now }
+    {
+        self.known
+            .iter()
+            .take_while(|known| known.digest != *digest)
+            .count()
+    }
+
+    // Drops the one unused for longest of what was accepted, where there are 1,024.
     fn make_room(&mut self)
         ensures users { self.new.users ≡ self.old.users }
         ensures key { self.new.key ≡ self.old.key }
         ensures room { deque_len self.new.known < 1024 }
-        ensures forgets { ForgetsSome self.old.known.items self.new.known.items }
+        ensures known { self.new.known.items ≡ room_for_one self.old.known.items }
     {
         if self.known.len() >= MOST {
-            let _oldest = self.known.pop_front();
+            let _unused = self.known.pop_front();
         }
     }
 
-    /// Keeps the digest of what a connection sent in vain, and drops the oldest where there are 1,024. It is not kept where there is no memory.
-    pub(crate) fn note_refused(&mut self, connection: u64, digest: [u8; 32])
+    /// Keeps the digest of what was sent in vain from a label, and drops the oldest where there are 1,024. It is not kept where there is no memory.
+    pub(crate) fn note_refused(&mut self, label: u64, digest: [u8; 32])
         requires { WasRefused (users_in self.old.users) self.old.key digest }
         ensures users { self.new.users ≡ self.old.users }
         ensures key { self.new.key ≡ self.old.key }
         ensures known { self.new.known.items ≡ self.old.known.items }
+        ensures notes { NotesRefused label digest self.old.refused.items self.new.refused.items }
     {
         self.make_room_refused();
-        let _kept = self.refused.push_back((connection, digest));
+        let _kept = self.refused.push_back((label, digest));
     }
 
     // Drops the oldest of what was refused, where there are 1,024.
@@ -109,6 +136,7 @@ impl Accepted {
         ensures key { self.new.key ≡ self.old.key }
         ensures room { deque_len self.new.refused < 1024 }
         ensures known { self.new.known.items ≡ self.old.known.items }
+        ensures refused { self.new.refused.items ≡ room_for_one self.old.refused.items }
     {
         if self.refused.len() >= MOST {
             let _oldest = self.refused.pop_front();
@@ -130,8 +158,8 @@ impl Accepted {
     }
 }
 
-// Adds the number of the bytes, and the bytes.
-fn add_counted(hash: &mut Sha256, bytes: &[u8])
+/// Adds the number of the bytes, and the bytes.
+pub(crate) fn add_counted(hash: &mut Sha256, bytes: &[u8])
     ensures { (m : List ℕ) → Holds256 hash.old m → Holds256 hash.new (m ++ with_length bytes.now) }
 {
     hash.update(&(bytes.len() as u64).to_le_bytes());

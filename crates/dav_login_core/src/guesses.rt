@@ -1,9 +1,9 @@
-//! Who may guess, and what a wrong guess costs.
+//! Who may guess, and what a guess costs.
 ghost use Rattle.std.specs.Prelude.{◌≡◌, ℕ, true, None, nat_eq};
 ghost use Rattle.std.specs.HashMap.{get};
-ghost use Rattle.dav_login_core.specs.Guessing.{AsksAt, CountsWrong, RefreshesBucket, fresh, guessing, may_guess, payer};
+ghost use Rattle.dav_login_core.specs.Guessing.{AsksAt, CountsWrong, RefreshesBucket, TakesGuess, fresh, guessing, has_guess, may_guess, payer};
 
-use crate::buckets::{Bucket, common_behind_guess};
+use crate::buckets::{Bucket, common_behind_hash};
 use std::alloc::Global;
 use std::collections::HashMap;
 
@@ -40,8 +40,19 @@ impl Guesses {
         }
     }
 
-    /// Whether a guess of the label is let through at this moment, in nanoseconds of a clock. Where the clock goes back, it is still the last moment. It costs nothing.
-    pub fn ask(&mut self, label: u64, now: u64) -> bool
+    /// Whether a guess of the label is let through at this moment, in nanoseconds of a clock: then what a hash costs is taken. Where the clock goes back, it is still the last moment.
+    pub fn take(&mut self, label: u64, now: u64) -> bool
+        ensures { TakesGuess now label result (guessing self.old) (guessing self.new) }
+    {
+        if !self.ask(label, now) {
+            return false;
+        }
+        self.common = common_behind_hash(self.common, self.latest);
+        true
+    }
+
+    // Whether a guess of the label is let through at this moment. It costs nothing.
+    fn ask(&mut self, label: u64, now: u64) -> bool
         ensures asks { AsksAt now (guessing self.old) (guessing self.new) }
         ensures may { result ≡ may_guess (guessing self.new) label }
     {
@@ -52,16 +63,15 @@ impl Guesses {
 
     /// Takes word that a guess of the label, which was let through at the last moment, was wrong.
     pub fn count_wrong(&mut self, label: u64)
-        requires { may_guess (guessing self.old) label ≡ true }
+        requires { has_guess (payer (guessing self.old) label) (guessing self.old).latest ≡ true }
         ensures { CountsWrong label (guessing self.old) (guessing self.new) }
     {
-        let behind_guess = self.payer(label).behind_guess(self.common, self.latest);
+        let behind_guess = self.payer(label).behind_guess(self.latest);
         if self.buckets.contains_key(&label) {
             let _before = self.buckets.insert(label, behind_guess);
         } else {
             self.strangers = behind_guess;
         }
-        self.common = common_behind_guess(self.common, self.latest);
     }
 
     // The bucket that pays for the label.

@@ -5,7 +5,7 @@ ghost use Rattle.http_frames.specs.ConnectionEvents.{Event};
 ghost use Rattle.http_frames.specs.Gate.{IsTold};
 ghost use Rattle.dav_login_core.specs.CallsBehind.{LeadsBehind, TurnsBehind};
 ghost use Rattle.dav_login_core.specs.Digests.{message};
-ghost use Rattle.dav_login_core.specs.GuessRuns.{GuessEvent, Happen, wrong_again, wrong_of, wrong_of_strangers};
+ghost use Rattle.dav_login_core.specs.GuessRuns.{GuessEvent, Happen, hash_count, wrong_of, wrong_of_strangers};
 ghost use Rattle.dav_login_core.specs.Guessing.{GuessState, second};
 ghost use Rattle.dav_login_core.specs.LoggedIn.{HandsOn, LoggedIn};
 ghost use Rattle.dav_login_core.specs.LoginViews.{login};
@@ -49,13 +49,13 @@ pub fn runs_lead_behind<S: TurnService, H>()
         → RunsBehind S.begins S.answers S.clocked S.listed (login old) events (login new) }
 {}
 
-/// The law of limits (own). Of the guesses that were let through in some seconds, whatever else happened, those that were wrong are at most five and as many as the seconds, of each label that has a
-/// bucket of its own, and of all others together; and at most twenty and twenty for each second, of all that had a wrong one in the minute before. It does nothing.
-pub fn few_guesses_are_wrong()
+/// The law of limits (own). In some seconds, whatever else happens, no more passwords are hashed than twenty and twenty for each second, of all labels together; and of these no more are wrong than
+/// five and as many as the seconds, of each label that has a bucket of its own, and of all others together. It does nothing.
+pub fn few_guesses_are_let_through()
+    ensures hashed { (old new : GuessState) (events : List GuessEvent) (seconds : ℕ) → Happen events old new
+        → new.latest ≤ old.latest + seconds * second → hash_count events ≤ 20 + 20 * seconds }
     ensures own { (old new : GuessState) (events : List GuessEvent) (label seconds : ℕ) → Happen events old new
         → new.latest ≤ old.latest + seconds * second → wrong_of label events ≤ 5 + seconds }
     ensures strangers { (old new : GuessState) (events : List GuessEvent) (seconds : ℕ) → Happen events old new
         → new.latest ≤ old.latest + seconds * second → wrong_of_strangers events ≤ 5 + seconds }
-    ensures again { (old new : GuessState) (events : List GuessEvent) (seconds : ℕ) → Happen events old new
-        → new.latest ≤ old.latest + seconds * second → wrong_again events ≤ 20 + 20 * seconds }
 {}

@@ -7,11 +7,13 @@ mod buckets;
 mod challenges;
 mod checking;
 mod digests;
+mod friends;
 mod guesses;
 mod known;
 mod labels;
 mod laws;
 mod login;
+mod networks;
 mod passing;
 mod recording;
 mod sending;
@@ -23,8 +25,8 @@ mod weighing;
 pub use addresses::Addresses;
 pub use challenges::LoginError;
 pub use laws::{
-    calls_lead_behind, few_guesses_are_wrong, messages_tell_names_and_passwords, runs_lead_behind,
-    turns_lead_behind,
+    calls_lead_behind, few_guesses_are_let_through, messages_tell_names_and_passwords,
+    runs_lead_behind, turns_lead_behind,
 };
 pub use login::{Fields, Login};
 pub use watching::Host;

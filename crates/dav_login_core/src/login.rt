@@ -1,15 +1,14 @@
 //! A service behind a login.
-ghost use Rattle.std.specs.Prelude.{◌≡◌, ◌↔◌, false, [], IfOk, MatchOption, IsErrOf};
+ghost use Rattle.std.specs.Prelude.{◌≡◌, ◌↔◌, false, [], IfOk, IsErrOf};
 ghost use Rattle.dav_users_core.specs.Users.{users_in};
-ghost use Rattle.dav_login_core.specs.Admissions.{AreRight};
+ghost use Rattle.dav_login_core.specs.Admissions.{LearnsBy, MayLearn};
 ghost use Rattle.dav_login_core.specs.Challenges.{challenge, is_realm};
-ghost use Rattle.dav_login_core.specs.Digests.{Learns};
 ghost use Rattle.dav_login_core.specs.LoggedIn.{Lists, LoggedIn};
 ghost use Rattle.dav_login_core.specs.LoginViews.{login};
 
 use crate::challenges::{LoginError, challenge};
 use crate::digests::Accepted;
-use crate::known::Known;
+use crate::known::Lesson;
 use crate::watching::{Host, Watch};
 use bytes::Bytes;
 use dav_users_core::Users;
@@ -82,7 +81,7 @@ impl<S: Service, H: Host> Service for Login<S, H> {
         match self.admit(request, response)? {
             Some(admitted) => {
                 self.service.call(&admitted.inner, response)?;
-                self.learn(admitted.learned);
+                self.learn(admitted.lesson);
             }
             None => {}
         }
@@ -91,15 +90,17 @@ impl<S: Service, H: Host> Service for Login<S, H> {
 }
 
 impl<S: Service, H: Host> Login<S, H> {
-    // Keeps what was found right.
-    pub(crate) fn learn(&mut self, learned: Option<Known>)
-        requires { AreRight (login self.old).door learned }
+    // Remembers what was let in.
+    pub(crate) fn learn(&mut self, lesson: Lesson)
+        requires { MayLearn (login self.old).door lesson }
         ensures door { (login self.new).door ≡ (login self.old).door }
         ensures service { (login self.new).service ≡ (login self.old).service }
-        ensures known { MatchOption learned ((login self.new).known ≡ (login self.old).known) (λ k. Learns k.digest (login self.old).known (login self.new).known) }
+        ensures known { LearnsBy lesson (login self.old).known (login self.new).known }
     {
-        if let Some(known) = learned {
-            self.accepted.keep(known);
+        match lesson {
+            Lesson::Nothing => {}
+            Lesson::Used(digest) => self.accepted.use_again(&digest),
+            Lesson::New(known) => self.accepted.keep(known),
         }
     }
 }

@@ -22,7 +22,7 @@ impl<S: TurnService, H: Host> TurnService for Login<S, H> {
     ghost room = { λ l. S.room (login l).service };
 
     fn begin_turn(&mut self, number: u64, address: &[u8], bytes: u64) {
-        self.watch.turn(number, address);
+        self.watch.turn(address);
         self.service.begin_turn(number, address, bytes);
     }
 

@@ -1,14 +1,17 @@
 //! Who guesses, and when.
 ghost use Rattle.std.specs.Prelude.{◌≡◌, true, false, [], string_bytes};
 ghost use Rattle.dav_login_core.specs.declared.addresses.Addresses.{Addresses};
-ghost use Rattle.dav_login_core.specs.ClientAddresses.{kept_address};
+ghost use Rattle.dav_login_core.specs.ClientAddresses.{address_of_request, kept_address};
 ghost use Rattle.dav_users_core.specs.Users.{is_password, users_in};
 ghost use Rattle.dav_login_core.specs.declared.checking.Verdict.TheVariants.{Right, Wrong};
 
 use crate::addresses::Addresses;
 use crate::checking::{Verdict, check};
 use crate::digests::Accepted;
+use crate::friends::Friends;
 use crate::guesses::Guesses;
+use crate::labels::label_of_name;
+use crate::networks::network_of;
 use bytes::Bytes;
 use dav_users_core::{Credentials, UsersError};
 use http::Request;
@@ -25,13 +28,13 @@ pub trait Host {
     fn tell(&mut self, error: &UsersError);
 }
 
-/// The limits of guesses, whose turn it is, and by what clients are known. The limits decide how soon a password is checked, and never whether it is right: so contracts see nothing of them here. That
+/// The limits of guesses, who was let in from where, and by what clients are known. The limits decide how soon a password is checked, and never whether it is right: so contracts see nothing of them here. That
 /// they are those of the client's address is said by `check`.
 #[derive(Drop)]
 pub(crate) struct Watch<H> {
     host: H,
     guesses: Guesses,
-    connection: u64,
+    friends: Friends,
     addresses: Addresses,
 }
 
@@ -50,23 +53,24 @@ impl<H: Host> Watch<H> {
         Watch {
             host,
             guesses: Guesses::new(alloc),
-            connection: 0,
+            friends: Friends::new(alloc),
             addresses: Addresses::new(address_field),
         }
     }
 
-    /// Takes word that a turn of the connection comes, whose client has the address. One that is longer than 64 bytes counts as none.
-    pub(crate) fn turn(&mut self, connection: u64, address: &[u8])
+    /// Takes word that a turn of a connection comes whose client has the address. One that is longer than 64 bytes counts as none.
+    pub(crate) fn turn(&mut self, address: &[u8])
         ensures field { self.new.field ≡ self.old.field }
         ensures connection { self.new.connection.items ≡ kept_address address.now }
     {
-        self.connection = connection;
         self.addresses.turn(address);
     }
 
-    /// The connection whose turn it is.
-    pub(crate) fn connection(&self) -> u64 {
-        self.connection
+    /// The address of a request of the connection whose turn it is.
+    pub(crate) fn address_of<'a>(&'a self, request: &'a Request<Bytes>) -> &'a [u8]
+        ensures { result.now ≡ address_of_request self.now request.now }
+    {
+        self.addresses.of(request)
     }
 
     /// Whether it is the password of the user with that name, as `check` says, at this moment.
@@ -85,12 +89,23 @@ impl<H: Host> Watch<H> {
         let now = self.host.now();
         check(
             &mut self.guesses,
+            &self.friends,
             &self.addresses,
             now,
             accepted,
             request,
             given,
         )
+    }
+
+    /// Takes word that the user with this name is let in by the request.
+    pub(crate) fn let_in(&mut self, accepted: &Accepted, request: &Request<Bytes>, name: &str)
+        ensures { self.new ≡ self.old }
+    {
+        let now = self.host.now();
+        let network = network_of(self.addresses.of(request));
+        self.friends
+            .note(label_of_name(&accepted.key, network, name), now);
     }
 
     /// Takes word that a file of users was not read.

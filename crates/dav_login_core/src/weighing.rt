@@ -9,7 +9,7 @@ pub(crate) enum Standing {
     Right,
     /// They are no user's.
     Wrong,
-    /// They were refused on this connection.
+    /// They were refused from this network.
     Again,
     /// Too many were wrong: these are not looked at.
     TooMany,

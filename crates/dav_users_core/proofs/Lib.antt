@@ -1,3 +1,4 @@
+pub mod CostLemmas
 pub mod CryptLemmas
 pub mod FileLemmas
 pub mod Texts

@@ -1,6 +1,6 @@
--- The name and the password that a field `Authorization` gives (RFC 7617 section 2).
-use Rattle.std.specs.Prelude.{◌≡◌, ◌==◌, ℕ, Bool, List, [], ◌∷◌, codes, string_bytes, Option, None, Some, option_map, Result, Ok, Err, IfOk, if◌then◌else◌}
-use Rattle.std.specs.List.{before_first, after_first, list_any}
+-- The name and the password that a field `Authorization` gives (RFC 7617 sections 2 and 2.1).
+use Rattle.std.specs.Prelude.{◌≡◌, ◌==◌, ℕ, Bool, List, [], ◌∷◌, codes, string_bytes, encode_utf8, Option, None, Some, option_map, Result, Ok, Err, IfOk, if◌then◌else◌}
+use Rattle.std.specs.List.{before_first, after_first, flat_map, list_any}
 use Rattle.std.specs.Str.{is_utf8, str_eq_ignore_ascii_case}
 use Rattle.base64.specs.Engines.{standard}
 use Rattle.base64.specs.GeneralPurpose.{decode_of}
@@ -24,12 +24,20 @@ behind_blanks (b ∷ bytes) = if b == 32 then behind_blanks bytes else b ∷ byt
 abbrev pub is_basic : List ℕ → Bool
 is_basic word = str_eq_ignore_ascii_case word (codes "basic")
 
--- a name, a colon and a password, in UTF-8
+-- a text in ISO 8859-1, written in UTF-8: each byte is the character with that number
+abbrev pub latin_text : List ℕ → List ℕ
+latin_text bytes = flat_map encode_utf8 bytes
+
+-- the text of some bytes: all of them are UTF-8, or else all are ISO 8859-1
+abbrev pub decoded_text : List ℕ → List ℕ
+decoded_text bytes = if is_utf8 bytes then bytes else latin_text bytes
+
+-- a name, a colon and a password
 abbrev pub parted_at_colon : List ℕ → Option NameAndPassword
 parted_at_colon text = if list_any is_colon text then Some (record { name = before_first is_colon text; password = after_first is_colon text }) else None
 
 abbrev pub given_in : Result (List ℕ) DecodeError → Option NameAndPassword
-given_in (Ok text) = if is_utf8 text then parted_at_colon text else None
+given_in (Ok bytes) = parted_at_colon (decoded_text bytes)
 given_in (Err e) = None
 
 -- what stands behind the scheme and the blanks, in base64

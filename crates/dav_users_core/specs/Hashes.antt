@@ -7,7 +7,7 @@ use Rattle.sha2.specs.Sha256.{sha256}
 use Rattle.sha2.specs.Sha512.{sha512}
 use Rattle.line_streams.specs.Numerals.{numeral}
 use Rattle.dav_users_core.specs.declared.error.LineFault.{LineFault}
-use Rattle.dav_users_core.specs.declared.error.LineFault.TheVariants.{Scheme as OtherScheme, Rounds as WrongRounds, Hash as WrongHash}
+use Rattle.dav_users_core.specs.declared.error.LineFault.TheVariants.{Scheme as OtherScheme, Bcrypt, Rounds as WrongRounds, Hash as WrongHash}
 use Rattle.dav_users_core.specs.declared.hashes.PasswordHash.{PasswordHash}
 use Rattle.dav_users_core.specs.declared.hashes.Scheme.{Scheme}
 use Rattle.dav_users_core.specs.declared.hashes.Scheme.TheVariants.{Sha256, Sha512}
@@ -71,13 +71,21 @@ behind_scheme scheme field rest =
 abbrev pub scheme_of : List ℕ → Option Scheme
 scheme_of word = if bytes_eq word (codes "6") then Some Sha512 else if bytes_eq word (codes "5") then Some Sha256 else None
 
-abbrev pub by_scheme : Option Scheme → List ℕ → Result HashText LineFault
-by_scheme None rest = Err OtherScheme
-by_scheme (Some scheme) rest = behind_scheme scheme (before_first is_dollar rest) (after_first is_dollar rest)
+-- the three words of bcrypt
+abbrev pub is_bcrypt : List ℕ → Bool
+is_bcrypt word = bytes_eq word (codes "2a") || (bytes_eq word (codes "2b") || bytes_eq word (codes "2y"))
+
+-- what is wrong with a word that is no scheme's
+abbrev pub unread_scheme : List ℕ → LineFault
+unread_scheme word = if is_bcrypt word then Bcrypt else OtherScheme
+
+abbrev pub by_scheme : List ℕ → Option Scheme → List ℕ → Result HashText LineFault
+by_scheme word None rest = Err (unread_scheme word)
+by_scheme word (Some scheme) rest = behind_scheme scheme (before_first is_dollar rest) (after_first is_dollar rest)
 
 -- what stands behind the first `$`
 abbrev pub behind_dollar : List ℕ → Result HashText LineFault
-behind_dollar rest = by_scheme (scheme_of (before_first is_dollar rest)) (after_first is_dollar rest)
+behind_dollar rest = by_scheme (before_first is_dollar rest) (scheme_of (before_first is_dollar rest)) (after_first is_dollar rest)
 
 abbrev pub hash_of : List ℕ → Result HashText LineFault
 hash_of text = if length (before_first is_dollar text) == 0 then behind_dollar (after_first is_dollar text) else Err OtherScheme
@@ -101,6 +109,6 @@ crypt_text h password = by h.scheme
     by Sha256 = text_256 (crypt sha256 h.rounds password h.salt)
     by Sha512 = text_512 (crypt sha512 h.rounds password h.salt)
 
--- no password of more than 256 bytes
+-- no password of more than 128 bytes
 abbrev pub accepts : HashText → List ℕ → Bool
-accepts h password = nat_le (length password) 256 && bytes_eq (crypt_text h password) h.sum
+accepts h password = nat_le (length password) 128 && bytes_eq (crypt_text h password) h.sum

@@ -1,10 +1,10 @@
 //! The field `Authorization` of the scheme Basic (RFC 7617).
-ghost use Rattle.std.specs.Prelude.{◌≡◌};
+ghost use Rattle.std.specs.Prelude.{◌≡◌, string_bytes, IfOk};
 ghost use Rattle.std.specs.List.{after_first, before_first};
 ghost use Rattle.base64.specs.Engines.{standard};
 ghost use Rattle.base64.specs.GeneralPurpose.{decode_of};
 ghost use Rattle.dav_users_core.specs.Basic.{GivesCredentials, behind_blanks, given_by, given_by_text};
-ghost use Rattle.dav_users_core.specs.Basic.{given_in, is_basic, is_blank_byte, parted_at_colon};
+ghost use Rattle.dav_users_core.specs.Basic.{given_in, is_basic, is_blank_byte, latin_text, parted_at_colon};
 
 use crate::users::at_colon;
 use base64::DecodeAllocError;
@@ -22,8 +22,9 @@ pub struct Credentials {
 
 impl Credentials {
     /// Reads the value of a field `Authorization`: the word `Basic`, in any case, blanks, and in
-    /// base64, with its padding, a name, a colon and a password, in UTF-8 (RFC 7617 section 2). None
-    /// for any other value. `AllocError` where there is no memory.
+    /// base64, with its padding, a name, a colon and a password (RFC 7617 section 2). These are in
+    /// UTF-8; where they are not, all of them are read as ISO 8859-1 (section 2.1). None for any other
+    /// value. `AllocError` where there is no memory.
     #[tactic(auto, using(crate::proofs::Texts::utf8_tests))]
     pub fn read(alloc: Global, value: &[u8]) -> Result<Option<Credentials>, AllocError>
         ensures { GivesCredentials result (given_by value.now) }
@@ -85,9 +86,21 @@ fn decoded(alloc: Global, token: &[u8]) -> Result<Option<Credentials>, AllocErro
         Err(_) => return Ok(None),
     };
     let Ok(text) = str::from_utf8(&bytes) else {
-        return Ok(None);
+        let text = latin_text(alloc, &bytes)?;
+        return parted(alloc, text.as_str());
     };
     parted(alloc, text)
+}
+
+// The text of bytes that are ISO 8859-1.
+fn latin_text(alloc: Global, bytes: &[u8]) -> Result<String, AllocError>
+    ensures { IfOk result (λ text. string_bytes text ≡ latin_text bytes.now) }
+{
+    let mut text = String::new(alloc);
+    'reading: for byte in bytes {
+        text.push(char::from(*byte))?;
+    }
+    Ok(text)
 }
 
 fn parted(alloc: Global, text: &str) -> Result<Option<Credentials>, AllocError>

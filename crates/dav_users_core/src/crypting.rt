@@ -1,19 +1,19 @@
 //! The sum of a password (U. Drepper, "Unix crypt using SHA-256 and SHA-512", version 0.6).
-ghost use Rattle.std.specs.Prelude.{ℕ, List, ◌≡◌, ◌≤◌, ◌-◌, ◌++◌, [], length, take};
+ghost use Rattle.std.specs.Prelude.{ℕ, List, ◌≡◌, ◌≤◌, ◌-◌, ◌++◌, [], codes, length, take};
 ghost use Rattle.arrayvec.specs.ArrayVec.{array_vec_len};
 ghost use Rattle.dav_users_core.specs.Crypt.{by_digit, by_digits, crypt, repeat_up_to, first_sum, mixed_sum, password_bytes, round, rounds, salt_bytes, times};
 
-use crate::hashing::{Hash, Sum};
+use crate::hashing::{Hash, Sum, kept};
 use arrayvec::ArrayVec;
 
 /// No password has more bytes.
-pub(crate) const LONGEST: usize = 256;
+pub(crate) const LONGEST: usize = 128;
 
 type Text = ArrayVec<u8, LONGEST>;
 
 /// The sum of a password under a salt, by so many rounds.
 pub(crate) fn crypt<H: Hash>(count: u32, password: &[u8], salt: &[u8]) -> Sum
-    requires password { length password.now ≤ 256 }
+    requires password { length password.now ≤ 128 }
     requires salt { length salt.now ≤ 16 }
     ensures { result.items ≡ crypt H.digest count password.now salt.now }
 {
@@ -23,9 +23,22 @@ pub(crate) fn crypt<H: Hash>(count: u32, password: &[u8], salt: &[u8]) -> Sum
     rounds::<H>(&p, &s, first, count)
 }
 
+/// So many rounds by a password, which begin with no sum and have a salt of 16 letters: the work of such a hash, and the sum of nobody.
+pub(crate) fn rounds_in_vain<H: Hash>(count: u32, password: &[u8]) -> Sum
+    requires { length password.now ≤ 128 }
+    ensures { result.items ≡ rounds H.digest password.now (codes "................") [] count }
+{
+    rounds::<H>(
+        &kept(password),
+        &kept(b"................"),
+        Sum::new(),
+        count,
+    )
+}
+
 // Steps 1 to 12.
 fn first_sum<H: Hash>(password: &[u8], salt: &[u8]) -> Sum
-    requires password { length password.now ≤ 256 }
+    requires password { length password.now ≤ 128 }
     ensures { result.items ≡ first_sum H.digest password.now salt.now }
 {
     let mixed = mixed_sum::<H>(password, salt);
@@ -78,7 +91,7 @@ fn add_by_digit<H: Hash>(hash: &mut H, number: usize, one: &[u8], other: &[u8])
 
 // Steps 13 to 16.
 fn password_bytes<H: Hash>(password: &[u8]) -> Text
-    requires { length password.now ≤ 256 }
+    requires { length password.now ≤ 128 }
     ensures { result.items ≡ password_bytes H.digest password.now }
 {
     let sum = times_sum::<H>(password, password.len());
@@ -135,7 +148,7 @@ fn round<H: Hash>(p: &[u8], s: &[u8], number: u32, sum: &[u8]) -> Sum
 
 // The first so many of the bytes, repeated as often as is needed.
 fn repeat_up_to(bytes: &[u8], count: usize) -> Text
-    requires { count ≤ 256 }
+    requires { count ≤ 128 }
     ensures { result.items ≡ repeat_up_to count bytes.now }
 {
     let mut text = Text::new();
@@ -147,7 +160,7 @@ fn repeat_up_to(bytes: &[u8], count: usize) -> Text
 
 // The bytes once more, up to so many in all.
 fn fill(text: &mut Text, bytes: &[u8], count: usize)
-    requires fits { count ≤ 256 }
+    requires fits { count ≤ 128 }
     requires room { array_vec_len text.old ≤ count }
     ensures items { text.new.items ≡ text.old.items ++ take (count - array_vec_len text.old) bytes.now }
     ensures len { array_vec_len text.new ≤ count }

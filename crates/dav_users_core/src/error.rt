@@ -12,8 +12,10 @@ pub enum LineFault {
     Text,
     /// No name stands in front of a colon, or it has a control character.
     Name,
-    /// Behind the colon stands neither `$5$` nor `$6$`.
+    /// Behind the colon stands neither `$5$` nor `$6$`, and no bcrypt.
     Scheme,
+    /// Behind the colon stands `$2a$`, `$2b$` or `$2y$`: a hash by bcrypt, which is not read.
+    Bcrypt,
     /// Behind `rounds=` stands no number of 1,000 to 20,000.
     Rounds,
     /// What stands behind that is no salt of at most 16 letters, a `$` and as many letters as the sum has.
@@ -45,6 +47,7 @@ impl fmt::Display for LineFault {
             LineFault::Text => "not UTF-8",
             LineFault::Name => "no name",
             LineFault::Scheme => "neither $5$ nor $6$",
+            LineFault::Bcrypt => "bcrypt is not read; htpasswd -n5 NAME makes a line that is",
             LineFault::Rounds => "rounds are neither left out nor 1000 to 20000",
             LineFault::Hash => "no hash",
             LineFault::Twice => "a name that stands above",

@@ -2,11 +2,13 @@
 ghost use Rattle.std.specs.Prelude.{◌≡◌, ◌≤◌, ◌↔◌, IsTrue, true, false, None, IfSome, length};
 ghost use Rattle.std.specs.List.{after_first, before_first, list_all};
 ghost use Rattle.line_streams.specs.Numerals.{numeral};
-ghost use Rattle.dav_users_core.specs.Hashes.{accepts, behind_dollar, behind_scheme, crypt_text, hash_of, is_dollar, is_equals, is_letter, is_rounds, is_salt, is_sum, letters_in, rounds_in, salt_and_sum, scheme_of, hash_text_of, hash_texts_of};
+ghost use Rattle.dav_users_core.specs.GuessCosts.{sum_in_vain};
+ghost use Rattle.dav_users_core.specs.Hashes.{accepts, behind_dollar, behind_scheme, crypt_text, hash_of, is_dollar, is_equals, is_letter, is_rounds, is_salt, is_sum, letters_in, rounds_in, salt_and_sum, scheme_of, unread_scheme, hash_text_of, hash_texts_of};
 
-use crate::crypting::{LONGEST, crypt};
+use crate::costs::Rounds;
+use crate::crypting::{LONGEST, crypt, rounds_in_vain};
 use crate::error::LineFault;
-use crate::hashing::kept;
+use crate::hashing::{Sum, kept};
 use crate::letters::{Letters, text_256, text_512};
 use arrayvec::ArrayVec;
 use line_streams::numbers::number;
@@ -38,6 +40,7 @@ pub struct PasswordHash {
 impl PasswordHash {
     /// Reads the text of a hash: `$5$` or `$6$`; then, where it is not 5,000, the number of rounds, as `rounds=NUMBER$`; a salt; a `$`; and the letters of the sum.
     ///
+    /// - `Bcrypt`: it begins with `$2a$`, `$2b$` or `$2y$`.
     /// - `Scheme`: it begins otherwise.
     /// - `Rounds`: the number is not of 1,000 to 20,000.
     /// - `Hash`: what follows is no salt and no sum. A salt has 16 letters at most, a sum 43 by SHA-256 and 86 by SHA-512, out of letters, digits, `.` and `/`.
@@ -51,7 +54,7 @@ impl PasswordHash {
         read_behind_dollar(rest)
     }
 
-    /// Whether it is the hash of the password. A password of more than 256 bytes is none, and nothing is hashed for it.
+    /// Whether it is the hash of the password. A password of more than 128 bytes is none, and nothing is hashed for it.
     pub fn accepts(&self, password: &[u8]) -> bool
         ensures { result ≡ accepts (hash_text_of self.now) password.now }
     {
@@ -78,7 +81,7 @@ impl PasswordHash {
 
     // The letters of the password's sum.
     fn letters_of(&self, password: &[u8]) -> Letters
-        requires { length password.now ≤ 256 }
+        requires { length password.now ≤ 128 }
         ensures { result.items ≡ crypt_text (hash_text_of self.now) password.now }
     {
         match self.scheme {
@@ -94,13 +97,24 @@ impl PasswordHash {
     }
 }
 
-/// A hash by SHA-512 with 5,000 rounds, which is nobody's.
-pub(crate) fn nobodys_hash() -> PasswordHash {
+/// A hash without a round, which is nobody's.
+pub(crate) fn nobodys_hash(scheme: Scheme) -> PasswordHash {
     PasswordHash {
-        scheme: Scheme::Sha512,
-        rounds: 5000,
+        scheme,
+        rounds: 0,
         salt: kept(b"................"),
         sum: Letters::new(),
+    }
+}
+
+/// So many rounds by a password, for nothing.
+pub(crate) fn hash_in_vain(rounds: Rounds, password: &[u8]) -> Sum
+    requires { length password.now ≤ 128 }
+    ensures { result.items ≡ sum_in_vain rounds password.now }
+{
+    match rounds.scheme {
+        Scheme::Sha256 => rounds_in_vain::<Sha256>(rounds.count, password),
+        Scheme::Sha512 => rounds_in_vain::<Sha512>(rounds.count, password),
     }
 }
 
@@ -110,7 +124,7 @@ fn read_behind_dollar(rest: &str) -> Result<PasswordHash, LineFault>
 {
     let (word, rest) = at_dollar(rest);
     let Some(scheme) = scheme_of(word) else {
-        return Err(LineFault::Scheme);
+        return Err(unread_scheme(word));
     };
     let (field, rest) = at_dollar(rest);
     read_behind_scheme(scheme, field, rest)
@@ -126,6 +140,16 @@ fn scheme_of(word: &str) -> Option<Scheme>
         return Some(Scheme::Sha256);
     }
     None
+}
+
+// What is wrong with a word that is no scheme's.
+fn unread_scheme(word: &str) -> LineFault
+    ensures { result ≡ unread_scheme word.now }
+{
+    if word == "2a" || word == "2b" || word == "2y" {
+        return LineFault::Bcrypt;
+    }
+    LineFault::Scheme
 }
 
 // The number of rounds, where it is told, a salt and a sum.

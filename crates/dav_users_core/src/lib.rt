@@ -2,6 +2,7 @@
 #![tactic(auto)]
 
 mod basic;
+mod costs;
 mod crypting;
 mod error;
 mod hashes;

@@ -1,15 +1,18 @@
 //! A file of users and their passwords, as htpasswd and mkpasswd write it.
-ghost use Rattle.std.specs.Prelude.{◌≡◌, ◌<◌, ◌↔◌, IsTrue, ◌∷◌, true, false, List, Result, length, option_map, IfErr, IfSome, None, Ok, OnOk, MatchResult};
+ghost use Rattle.std.specs.Prelude.{◌≡◌, ◌<◌, ◌↔◌, IsTrue, ◌∷◌, [], true, false, List, Result, length, option_map, IfErr, IfSome, None, Ok, OnOk, MatchResult};
 ghost use Rattle.std.specs.List.{after_first, before_first, list_all, list_any};
 ghost use Rattle.line_streams.specs.Lines.{lines};
+ghost use Rattle.dav_users_core.specs.GuessCosts.{FillUp, cost_of_guess, cost_of_hash, dearest};
 ghost use Rattle.dav_users_core.specs.Hashes.{hash_text_of};
 ghost use Rattle.dav_users_core.specs.Private.LineStops.{StopsLine};
 ghost use Rattle.dav_users_core.specs.Users.{IsUsersFault, ReadsUsers, UserLine, at_number, hash_named, has_no_user, is_colon, is_user_name, has_user_name, is_password, is_no_control, user_in, user_of, user_of_text, users_in, users_of, with_line};
 ghost use Rattle.dav_users_core.specs.declared.error.LineFault.{LineFault};
 ghost use Rattle.dav_users_core.specs.declared.users.Setback.TheVariants.{Memory};
 
+use crate::costs::{Rounds, cost, dearer, fill_up, rounds_of};
+use crate::crypting::LONGEST;
 use crate::error::{LineFault, UsersError};
-use crate::hashes::{PasswordHash, nobodys_hash};
+use crate::hashes::{PasswordHash, Scheme, hash_in_vain, nobodys_hash};
 use memchr::memchr;
 use std::alloc::{AllocError, AllocFailed, Global};
 use std::hint::black_box;
@@ -74,18 +77,40 @@ impl Users {
         Ok(users)
     }
 
-    /// Whether it is the password of the user with that name. For a name that nobody has, a password is hashed all the same, with 5,000 rounds of SHA-512, so that it takes as long as for most
-    /// names.
+    /// Whether it is the password of the user with that name.
+    ///
+    /// A guess costs about as much for each name: behind the hash of a cheaper line, and for a name that nobody has, a password is hashed in vain, until that costs what the dearest line does. For one
+    /// of more than 128 bytes, which is wrong, nothing is hashed.
     pub fn check(&self, name: &str, password: &[u8]) -> bool
         ensures { result ≡ is_password (users_in self.now) name.now password.now }
     {
-        match self.hash_named(name) {
+        if password.len() > LONGEST {
+            return false;
+        }
+        let rest = self.missing_rounds(name);
+        let is_right = match self.hash_named(name) {
             Some(hash) => hash.accepts(password),
             None => {
-                let _hashed = black_box(nobodys_hash().accepts(password));
+                let _hashed = black_box(nobodys_hash(rest.scheme).accepts(password));
                 false
             }
-        }
+        };
+        let _hashed = black_box(hash_in_vain(rest, password));
+        is_right
+    }
+
+    /// What each guess costs: so many rounds of SHA-512, rounded up, cost as much as the dearest line. A round of SHA-256 is reckoned as four thirds of one of SHA-512. Without a user it is 5,000.
+    pub fn cost(&self) -> u64
+        ensures { result ≡ cost_of_guess (users_in self.now) }
+    {
+        (cost(self.dearest()) + 2) / 3
+    }
+
+    /// Whether there is no user.
+    pub fn is_empty(&self) -> bool
+        ensures { IsTrue result ↔ (users_in self.now ≡ []) }
+    {
+        self.users.is_empty()
     }
 
     /// Whether the user with the name has the same line in both: one hash, or none in either.
@@ -98,6 +123,41 @@ impl Users {
             (None, None) => true,
             _ => false,
         }
+    }
+
+    // The rounds that are hashed in vain for the name. With those of its own hash they cost what the dearest line does.
+    #[tactic(auto, using(crate::proofs::CostLemmas::no_dearer))]
+    fn missing_rounds(&self, name: &str) -> Rounds
+        ensures { FillUp (cost_of_hash (hash_named (users_in self.now) name.now)) result (dearest (users_in self.now)) }
+    {
+        fill_up(self.cost_of_hash(name), self.dearest())
+    }
+
+    // What the hash of the user with the name costs, if there is one.
+    fn cost_of_hash(&self, name: &str) -> u64
+        ensures { result ≡ cost_of_hash (hash_named (users_in self.now) name.now) }
+    {
+        match self.hash_named(name) {
+            Some(hash) => cost(rounds_of(hash)),
+            None => 0,
+        }
+    }
+
+    // The dearest rounds of the users.
+    fn dearest(&self) -> Rounds
+        ensures { result ≡ dearest (users_in self.now) }
+    {
+        let Some((first, others)) = self.users.split_first() else {
+            return Rounds {
+                scheme: Scheme::Sha512,
+                count: 5000,
+            };
+        };
+        let mut so_far = rounds_of(&first.hash);
+        'looking: for user in others {
+            so_far = dearer(so_far, rounds_of(&user.hash));
+        }
+        so_far
     }
 
     // The hash of the user with the name.

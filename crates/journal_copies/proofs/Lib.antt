@@ -1,2 +1,3 @@
 pub mod Breaking
+pub mod Coming
 pub mod Wholes

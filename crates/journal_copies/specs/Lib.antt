@@ -1,4 +1,5 @@
 pub mod Broken
 pub mod DiskLookLaws
 pub mod DiskLooks
+pub mod ReadRounds
 pub mod WholeRounds

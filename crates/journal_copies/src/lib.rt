@@ -11,7 +11,7 @@ mod rounds;
 mod searching;
 
 pub use adopting::{Break, find_break, shut};
-pub use appending::{append_text, round_of};
+pub use appending::{append_rounds, records_of};
 pub use laws::rounds_are_one;
 pub use looking::Looking;
 pub use passing::next_round;

@@ -8,7 +8,9 @@ use Rattle.journal_core.specs.LiveCopies.{ChangesBehind, CopiesAreWhole, IsCopy,
 use Rattle.journal_core.specs.Private.AllLaws.{all_parts, all_two}
 use Rattle.journal_core.proofs.Numbers.{shut_or_not}
 use Rattle.journal_core.proofs.Parts.{begins}
+use Rattle.journal_core.specs.SeveralRounds.{AreRoundsBehind}
 use Rattle.journal_core.proofs.Rounds.{first_apart, front_len, front_more, front_one, front_two, records_in_more, round_len, rounds_size}
+use Rattle.journal_core.proofs.Several.{laid, laid_text}
 
 -- ---- lists
 
@@ -52,19 +54,22 @@ changed first h file file' rounds fits it c =
 
 opened : (first : ℕ) (h : Header) (file file' : List ℕ) (rounds : List Laid) → IsOf64Bits h → Stands first h file rounds → OpensGate h file file' → Grows first h file file' rounds
 opened first h file file' rounds fits it c =
-    let text = λ (rs : List Laid). round_text h.key (gate_behind h rs) (records_text c.records) ++ (shut_word ++ c.behind) in
-    let one = front_one c.first first h h c.rounds rounds (text c.rounds) it.behind fits fits c.keeps.gates it.gates (sym c.keeps.before ∙ it.split) in
-    let r : Laid = (open_word, c.records) in
-    let before : file ≡ journal_front first h rounds ++ (shut_word ++ text rounds) = c.keeps.before ∙ λ i. journal_front (one.1 i) h (one.2 i) ++ (shut_word ++ text (one.2 i)) in
-    let after : file' ≡ journal_front first h rounds ++ (open_word ++ text rounds) = c.keeps.after ∙ λ i. journal_front (one.1 i) h (one.2 i) ++ (open_word ++ text (one.2 i)) in (
-      r ∷ [],
-      record { behind = c.behind; split = after ∙ sym (front_more first h rounds r (shut_word ++ c.behind) it.gates); gates = all_two IsOpen rounds (r ∷ []) it.gates (c.round, tt) },
+    let text = c.text ++ (shut_word ++ c.behind) in
+    let one = front_one c.first first h h c.rounds rounds text it.behind fits fits c.keeps.gates it.gates (sym c.keeps.before ∙ it.split) in
+    let gate = gate_behind h rounds in
+    let whole : AreRoundsBehind h.key gate c.text c.records = subst (λ (rs : List Laid). AreRoundsBehind h.key (gate_behind h rs) c.text c.records) one.2 c.whole in
+    let rs = laid h.key gate c.text c.records whole open_word in
+    let before : file ≡ journal_front first h rounds ++ (shut_word ++ text) = c.keeps.before ∙ λ i. journal_front (one.1 i) h (one.2 i) ++ (shut_word ++ text) in
+    let after : file' ≡ journal_front first h rounds ++ (open_word ++ text) = c.keeps.after ∙ λ i. journal_front (one.1 i) h (one.2 i) ++ (open_word ++ text) in
+    let all = ap (λ (l : List ℕ). journal_front first h rounds ++ l) (laid_text h.key gate c.text c.records whole open_word (shut_word ++ c.behind)) in (
+      rs,
+      record { behind = c.behind; split = after ∙ all ∙ sym (front_two first h rounds rs (shut_word ++ c.behind) it.gates); gates = all_two IsOpen rounds rs it.gates (whole.first, whole.others) },
       omega (
         arith,
         ap length before,
         ap length after,
-        length-append (journal_front first h rounds) (shut_word ++ text rounds),
-        length-append (journal_front first h rounds) (open_word ++ text rounds),
+        length-append (journal_front first h rounds) (shut_word ++ text),
+        length-append (journal_front first h rounds) (open_word ++ text),
       ),
     )
 

@@ -1,22 +1,22 @@
 -- What a crash leaves in each step of an append.
-use Rattle.std.proofs.Common.{◌≡◌, ◌≢◌, ◌⊎◌, inl, inr, ℕ, ◌+◌, ◌^◌, ◌<◌, Bool, List, [], ◌∷◌, ◌++◌, length, take, drop, slice_index, refl, sym, ◌∙◌, ap, subst, arith, append_assoc, length-append}
+use Rattle.std.proofs.Common.{◌≡◌, ◌≢◌, ◌⊎◌, inl, inr, ℕ, ◌+◌, Bool, List, [], ◌∷◌, ◌++◌, length, take, drop, refl, sym, ◌∙◌, ap, subst, arith, append_assoc, length-append}
 use Rattle.sqlite_disk.specs.Disk.{Holds, Torn, Only}
 use Rattle.journal_core.specs.declared.header.Header.{Header}
 use Rattle.journal_core.specs.declared.journal.Journal.{Journal}
-use Rattle.journal_core.specs.Format.{IsOpen, Lies, StandsFor, journal_front, open_word, records_in, records_text, round_text, rounds_text, shut_word}
+use Rattle.std.proofs.lemmas.Grind.{flat_map-append}
+use Rattle.journal_core.specs.Format.{Laid, IsOpen, Lies, StandsFor, journal_front, open_word, records_in, rounds_text, shut_word}
 use Rattle.journal_core.specs.declared.clocked.Clocked.{Clocked}
 use Rattle.journal_core.specs.Clocked.{disk_of, GoesAs, MomentsLead}
 use Rattle.journal_core.specs.LiveCopies.{ChangesBehind, GoesBySteps, MayStep, OpensGate}
+use Rattle.journal_core.specs.SeveralRounds.{AreRoundsBehind}
 use Rattle.journal_core.specs.Private.DiskMoments.{goes_weaker}
 use Rattle.journal_core.specs.Resting.{IsSettled, KnowsLength, disk_behind}
 use Rattle.journal_core.specs.Private.AllLaws.{all_two}
 use Rattle.journal_core.specs.Private.Stages.{AllBegin, BeginsWith, ChangesOnce, KeepsBelow, Wrote}
 use Rattle.journal_core.proofs.Numbers.{shut_or_not}
-use Rattle.journal_core.proofs.Rounds.{front_len, front_more, records_in_more, rounds_size}
+use Rattle.journal_core.proofs.Rounds.{front_len, front_two, rounds_two}
+use Rattle.journal_core.proofs.Several.{laid, laid_size, laid_text, opened_is_open}
 use Rattle.journal_core.proofs.Writes.{over, over_done}
-
-opened_is_open : open_word ≢ shut_word
-opened_is_open is = omega (arith, ap (λ (l : List ℕ). slice_index l 0) is)
 
 -- from a journal that is at rest
 module _ {D B : Type 0} (seen : D → List ℕ) (may_leave : D → List ℕ → Type 0) (is_clean : D → Bool) (j : Journal D B) (records : List (List ℕ)) (it : IsSettled seen may_leave is_clean j records) where
@@ -90,74 +90,77 @@ module _ {D B : Type 0} (seen : D → List ℕ) (may_leave : D → List ℕ → 
     knows = knows;
   }
 
-  -- what is seen once the round stands behind the gate
-  module _ (new : List (List ℕ)) (bytes : List ℕ) (bytes_is : bytes ≡ records_text new) (some : 0 < length bytes) (short : length bytes < 2 ^ 64) where
+  -- what is seen once the rounds stand behind the gate
+  module _ (new : List (List ℕ)) (text : List ℕ) (are : AreRoundsBehind j.header.key j.at text new) where
     abbrev with_word : List ℕ → List ℕ → List ℕ
-    with_word word more = before ++ (word ++ (round_text j.header.key j.at bytes ++ (shut_word ++ more)))
+    with_word word more = before ++ (word ++ (text ++ (shut_word ++ more)))
 
     abbrev pub Staged : List ℕ → Type 0
-    Staged mid = BeginsWith (to_gate ++ (round_text j.header.key j.at bytes ++ shut_word)) mid
+    Staged mid = BeginsWith (to_gate ++ (text ++ shut_word)) mid
 
     staged_is : (mid : List ℕ) → (staged : Staged mid) → mid ≡ with_word shut_word staged.0
     staged_is mid staged =
-        staged.1 ∙ append_assoc to_gate (round_text j.header.key j.at bytes ++ shut_word) staged.0
-        ∙ append_assoc before shut_word ((round_text j.header.key j.at bytes ++ shut_word) ++ staged.0)
-        ∙ ap (λ (l : List ℕ). before ++ (shut_word ++ l)) (append_assoc (round_text j.header.key j.at bytes) shut_word staged.0)
+        staged.1 ∙ append_assoc to_gate (text ++ shut_word) staged.0
+        ∙ append_assoc before shut_word ((text ++ shut_word) ++ staged.0)
+        ∙ ap (λ (l : List ℕ). before ++ (shut_word ++ l)) (append_assoc text shut_word staged.0)
 
     gate_torn : (mid c : List ℕ) (staged : Staged mid) → Torn j.at 8 mid c → Torn (length before) 8 (with_word shut_word staged.0) c
     gate_torn mid c staged torn = subst (λ k. Torn k 8 (with_word shut_word staged.0) c) at_gate (subst (λ (f : List ℕ). Torn j.at 8 f c) (staged_is mid staged) torn)
 
-    with_round : (more word c : List ℕ) → length word ≡ 8 → word ≢ shut_word → c ≡ with_word word more → Lies j.header c (it.rounds ++ (word, new) ∷ [])
-    with_round more word c len other is = record {
-      first = it.lies.first;
-      behind = more;
-      made = it.lies.made;
-      fits = it.lies.fits;
-      split = is ∙ ap (λ (l : List ℕ). before ++ (word ++ (round_text j.header.key j.at l ++ (shut_word ++ more)))) bytes_is
-          ∙ ap (λ n. before ++ (word ++ (round_text j.header.key n (records_text new) ++ (shut_word ++ more)))) it.at
-          ∙ sym (front_more it.lies.first j.header it.rounds (word, new) (shut_word ++ more) it.lies.gates);
-      gates = all_two IsOpen it.rounds ((word, new) ∷ []) it.lies.gates (record { word = len; other = other; some = omega (arith, some, ap length bytes_is); short = omega (arith, short, ap length bytes_is) }, tt);
-    }
+    abbrev rounds_with : List ℕ → List Laid
+    rounds_with word = it.rounds ++ laid j.header.key j.at text new are word
 
-    with_records : (word : List ℕ) → records_in (it.rounds ++ (word, new) ∷ []) ≡ records ++ new
-    with_records word = records_in_more it.rounds (word, new) ∙ ap (λ (l : List (List ℕ)). l ++ new) it.same
+    with_rounds : (more word c : List ℕ) → length word ≡ 8 → word ≢ shut_word → c ≡ with_word word more → Lies j.header c (rounds_with word)
+    with_rounds more word c len other is =
+        let rs = laid j.header.key j.at text new are word in
+        record {
+          first = it.lies.first;
+          behind = more;
+          made = it.lies.made;
+          fits = it.lies.fits;
+          split = is ∙ ap (λ (l : List ℕ). before ++ l) (laid_text j.header.key j.at text new are word (shut_word ++ more))
+              ∙ ap (λ n. before ++ (rounds_text j.header.key n rs ++ (shut_word ++ more))) it.at
+              ∙ sym (front_two it.lies.first j.header it.rounds rs (shut_word ++ more) it.lies.gates);
+          gates = all_two IsOpen it.rounds rs it.lies.gates (record { word = len; other = other; some = are.first.some; short = are.first.short }, are.others);
+        }
+
+    with_records : (word : List ℕ) → records_in (rounds_with word) ≡ records ++ new
+    with_records word = flat_map-append (λ (q : Laid). q.1) it.rounds (laid j.header.key j.at text new are word) ∙ λ i. it.same i ++ are.all i
 
     -- whatever stands at the gate
     pub gate_crash : (mid : List ℕ) (outcomes : List ℕ → Type 0) → Staged mid → Only mid outcomes → (c : List ℕ) → Wrote j.at 8 outcomes c → StandsFor j.header c records ⊎ StandsFor j.header c (records ++ new)
     gate_crash mid outcomes staged only c from =
-        let behind = round_text j.header.key j.at bytes ++ (shut_word ++ staged.0) in
+        let behind = text ++ (shut_word ++ staged.0) in
         let torn = gate_torn mid c staged (subst (λ (f : List ℕ). Torn j.at 8 f c) (only from.0 from.1) from.2) in
         let word = take 8 (drop (length before) c) in
         let both : (length word ≡ 8) × (c ≡ before ++ (word ++ behind)) = over before shut_word behind c torn in
         elim (shut_or_not word) [
           | inl still ↦ inl (stands_still c (behind, both.1 ∙ ap (λ (w : List ℕ). before ++ (w ++ behind)) still ∙ sym (append_assoc before shut_word behind)))
-          | inr other ↦ inr (inr (it.rounds ++ (word, new) ∷ [], with_round staged.0 word c both.0 other both.1, with_records word))
+          | inr other ↦ inr (inr (rounds_with word, with_rounds staged.0 word c both.0 other both.1, with_records word))
         ]
 
     -- the gate is open
     opened_is : (mid c : List ℕ) (staged : Staged mid) → Torn j.at 8 mid c → Holds c j.at open_word → c ≡ with_word open_word staged.0
     opened_is mid c staged torn holds =
-        over_done before shut_word (round_text j.header.key j.at bytes ++ (shut_word ++ staged.0)) open_word c refl (gate_torn mid c staged torn) (subst (λ k. Holds c k open_word) at_gate holds)
+        over_done before shut_word (text ++ (shut_word ++ staged.0)) open_word c refl (gate_torn mid c staged torn) (subst (λ k. Holds c k open_word) at_gate holds)
 
     -- which is a step
     gate_step : (mid c : List ℕ) → Staged mid → Torn j.at 8 mid c → Holds c j.at open_word → OpensGate j.header mid c
-    gate_step mid c staged torn holds =
-        let is = staged_is mid staged in
-        let text = λ (n : ℕ) (l : List ℕ). round_text j.header.key n l ++ (shut_word ++ staged.0) in
-        record {
-          first = it.lies.first;
-          rounds = it.rounds;
-          records = new;
-          behind = staged.0;
-          round = record { word = refl; other = opened_is_open; some = omega (arith, some, ap length bytes_is); short = omega (arith, short, ap length bytes_is) };
-          keeps = record {
-            made = it.lies.made;
-            fits = it.lies.fits;
-            gates = it.lies.gates;
-            before = is ∙ λ i. before ++ (shut_word ++ text (it.at i) (bytes_is i));
-            after = opened_is mid c staged torn holds ∙ λ i. before ++ (open_word ++ text (it.at i) (bytes_is i));
-          };
-        }
+    gate_step mid c staged torn holds = record {
+      first = it.lies.first;
+      rounds = it.rounds;
+      text = text;
+      records = new;
+      behind = staged.0;
+      whole = subst (λ n. AreRoundsBehind j.header.key n text new) it.at are;
+      keeps = record {
+        made = it.lies.made;
+        fits = it.lies.fits;
+        gates = it.lies.gates;
+        before = staged_is mid staged;
+        after = opened_is mid c staged torn holds;
+      };
+    }
 
     pub gate_goes : {B' : Type 0} (old new' : Clocked D B') → Staged (seen (disk_of old)) → Torn j.at 8 (seen (disk_of old)) (seen (disk_of new')) → Holds (seen (disk_of new')) j.at open_word
         → GoesAs (ChangesOnce (seen (disk_of old)) (seen (disk_of new'))) seen old new' → GoesBySteps seen j.header old new'
@@ -172,17 +175,34 @@ module _ {D B : Type 0} (seen : D → List ℕ) (may_leave : D → List ℕ → 
 
     pub gate_len : (mid c : List ℕ) → Staged mid → Torn j.at 8 mid c → length c ≡ length mid
     gate_len mid c staged torn =
-        let len : length mid ≡ length (to_gate ++ (round_text j.header.key j.at bytes ++ shut_word)) + length staged.0 = ap length staged.1 ∙ length-append (to_gate ++ (round_text j.header.key j.at bytes ++ shut_word)) staged.0 in
-        omega (arith, len, length-append to_gate (round_text j.header.key j.at bytes ++ shut_word), at_behind, torn.no_shorter, torn.no_longer)
+        let len : length mid ≡ length (to_gate ++ (text ++ shut_word)) + length staged.0 = ap length staged.1 ∙ length-append (to_gate ++ (text ++ shut_word)) staged.0 in
+        omega (arith, len, length-append to_gate (text ++ shut_word), at_behind, torn.no_shorter, torn.no_longer)
+
+    -- where the gate is behind them
+    end_is : j.at + (8 + length text) ≡ 56 + length (rounds_text j.header.key 56 (rounds_with open_word))
+    end_is =
+        let key = j.header.key in
+        let rs = laid key j.at text new are open_word in
+        let place = 56 + length (rounds_text key 56 it.rounds) in
+        let moved : length (rounds_text key place rs) ≡ 8 + length text = ap (λ n. length (rounds_text key n rs)) (sym it.at) ∙ laid_size key j.at text new are open_word refl in
+        omega (
+          arith,
+          it.at,
+          moved,
+          ap length (rounds_two key 56 it.rounds rs [] it.lies.gates),
+          length-append (rounds_text key 56 (it.rounds ++ rs)) [],
+          length-append (rounds_text key 56 it.rounds) (rounds_text key place rs ++ []),
+          length-append (rounds_text key place rs) [],
+        )
 
     -- and all of it is on the disk
     pub added : (j' : Journal D B) (mid : List ℕ) → Staged mid → Torn j.at 8 mid (seen (disk_behind j')) → Holds (seen (disk_behind j')) j.at open_word → Only (seen (disk_behind j')) (may_leave (disk_behind j'))
-        → j'.header ≡ j.header → j'.at ≡ j.at + (24 + length bytes) → KnowsLength seen is_clean j' → IsSettled seen may_leave is_clean j' (records ++ new)
+        → j'.header ≡ j.header → j'.at ≡ j.at + (8 + length text) → KnowsLength seen is_clean j' → IsSettled seen may_leave is_clean j' (records ++ new)
     added j' mid staged torn holds only header at knows = record {
-      rounds = it.rounds ++ (open_word, new) ∷ [];
-      lies = subst (λ (h : Header). Lies h (seen (disk_behind j')) (it.rounds ++ (open_word, new) ∷ [])) (sym header) (with_round staged.0 open_word (seen (disk_behind j')) refl opened_is_open (opened_is mid (seen (disk_behind j')) staged torn holds));
+      rounds = rounds_with open_word;
+      lies = subst (λ (h : Header). Lies h (seen (disk_behind j')) (rounds_with open_word)) (sym header) (with_rounds staged.0 open_word (seen (disk_behind j')) refl opened_is_open (opened_is mid (seen (disk_behind j')) staged torn holds));
       same = with_records open_word;
-      at = subst (λ (h : Header). j'.at ≡ 56 + length (rounds_text h.key 56 (it.rounds ++ (open_word, new) ∷ []))) (sym header) (omega (arith, at, it.at, rounds_size j.header.key 56 it.rounds (open_word, new) it.lies.gates refl, ap length bytes_is));
+      at = subst (λ (h : Header). j'.at ≡ 56 + length (rounds_text h.key 56 (rounds_with open_word))) (sym header) (at ∙ end_is);
       durable = only;
       knows = knows;
     }

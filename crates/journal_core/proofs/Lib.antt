@@ -17,6 +17,7 @@ pub mod Records
 pub mod Rounds
 pub mod Runs
 pub mod Settling
+pub mod Several
 pub mod Staging
 pub mod Streams
 pub mod Writes

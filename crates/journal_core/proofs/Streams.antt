@@ -5,7 +5,7 @@ use Rattle.std.proofs.lemmas.List.{take_at, take-append-le, drop_at, drop-drop, 
 use Rattle.std.specs.Prelude.{IfOk}
 use Rattle.std.specs.Io.{ReadsAtMost}
 use Rattle.std.specs.declared.io.Error.{Error}
-use Rattle.std.specs.Io.KnownBytes.{Consumes, IsAtEnd, ReadConsumes}
+use Rattle.std.specs.Io.KnownBytes.{Consumes, ReadConsumes}
 
 -- the bytes that a file had at a place, and it stands behind them
 pub gives_more : (known known' : Option (List ℕ)) (file bytes : List ℕ) (at : ℕ) → known ≡ Some (drop at file) → at ≤ length file → Consumes known known' bytes

@@ -5,5 +5,7 @@ pub mod LiveCopies
 pub mod MadeRoom
 pub mod JournalReading
 pub mod Resting
+pub mod SeveralRounds
+pub mod Batches
 pub mod Sources
 pub mod Private

@@ -4,7 +4,8 @@ use Rattle.std.specs.List.{AllByRecursion}
 use Rattle.journal_core.specs.declared.header.Header.{Header}
 use Rattle.journal_core.specs.declared.clocked.Clocked.{Clocked}
 use Rattle.journal_core.specs.Clocked.{GoesAs, disk_of}
-use Rattle.journal_core.specs.Format.{Laid, IsOf64Bits, IsOpen, Lies, journal_front, open_word, records_in, records_text, round_text, rounds_text, shut_word}
+use Rattle.journal_core.specs.Format.{Laid, IsOf64Bits, IsOpen, Lies, journal_front, open_word, records_in, rounds_text, shut_word}
+use Rattle.journal_core.specs.SeveralRounds.{AreRoundsBehind}
 
 -- where the gate is behind these rounds
 abbrev pub gate_behind : Header → List Laid → ℕ
@@ -27,15 +28,15 @@ pub record ChangesBehind (h : Header) (file file' : List ℕ) : Type 0 where
   pub keeps : KeepsFront first h rounds file file' (shut_word ++ old) (shut_word ++ new)
   pub longer : length old ≤ length new
 
--- behind the gate that is shut stands a whole round, and then a gate that is shut: the first of the two is opened
+-- behind the gate that is shut stand whole rounds, and then a gate that is shut: the first of the two is opened
 pub record OpensGate (h : Header) (file file' : List ℕ) : Type 0 where
   pub first : ℕ
   pub rounds : List Laid
+  pub text : List ℕ
   pub records : List (List ℕ)
   pub behind : List ℕ
-  pub round : IsOpen (open_word, records)
-  pub keeps : KeepsFront first h rounds file file' (shut_word ++ (round_text h.key (gate_behind h rounds) (records_text records) ++ (shut_word ++ behind)))
-      (open_word ++ (round_text h.key (gate_behind h rounds) (records_text records) ++ (shut_word ++ behind)))
+  pub whole : AreRoundsBehind h.key (gate_behind h rounds) text records
+  pub keeps : KeepsFront first h rounds file file' (shut_word ++ (text ++ (shut_word ++ behind))) (open_word ++ (text ++ (shut_word ++ behind)))
 
 -- one step of a file in use
 abbrev pub StepsOn : Header → List ℕ → List ℕ → Type 0

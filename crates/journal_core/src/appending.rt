@@ -3,20 +3,19 @@ ghost use Rattle.std.specs.Prelude.{◌≡◌, ◌≢◌, ◌⊎◌, ◌+◌, �
 ghost use Rattle.sqlite_disk.specs.Disk.{MoreFaults, Only};
 ghost use Rattle.journal_core.specs.Clocked.{EachLeaves};
 ghost use Rattle.journal_core.specs.Format.{StandsFor, records_text};
+ghost use Rattle.journal_core.specs.Batches.{FitsBehind, Gathers, bytes_gathered};
 ghost use Rattle.journal_core.specs.LiveCopies.{GoesBySteps};
 ghost use Rattle.journal_core.specs.MadeRoom.{made_room, spare_room};
 ghost use Rattle.journal_core.specs.Resting.{Carries, HasDiskCause, HasRoomCause, HasTouchCause, IsSettled, KnowsLength, clocked_of, disk_behind, gate_of, header_in, len_of, is_ready};
 ghost use Rattle.journal_core.specs.Private.Looks.{Grows};
 ghost use Rattle.journal_core.specs.declared.error.JournalError.TheVariants.{NotOpen, TooLarge};
 
+use crate::batch::Batch;
 use crate::error::JournalError;
-use crate::journal::Journal;
+use crate::journal::{Journal, LARGEST};
 use crate::round::Round;
-use crate::writing::{lengthen, put, write_error, write_round};
+use crate::writing::{lengthen, put, write_behind, write_error, write_round};
 use sqlite_disk::Disk;
-
-/// So long no file grows, in bytes.
-const LARGEST: usize = 1 << 62;
 
 /// How much room is made behind the last round at least, where the disk has four times as much free, in bytes.
 const ROOM: usize = 4 << 20;
@@ -70,6 +69,56 @@ impl<D: Disk, B> Journal<D, B> {
         let end = write_round(&mut self.disk, note, self.header.key, self.at, round, len).map_err(
             write_error,
         )?;
+        put(&mut self.disk, note, self.at, b"opengate").map_err(write_error)?;
+        self.len = match self.len {
+            Some(len) => Some(len.max(end + 8)),
+            None => None,
+        };
+        self.at = end;
+        self.is_open = true;
+        Ok(())
+    }
+
+    /// Appends rounds at once, by two syncs for all of them. At `Ok` they are acknowledged: from then on each crash leaves a file in which their records stand; and each crash before leaves all of them or none. Where there is no round, nothing is done (own).
+    ///
+    /// - `NotOpen`: an earlier call failed, or the journal was not read to its end. Nothing is done.
+    /// - `TooLarge`: the file would have nearly 2^62 bytes or more. Nothing is done.
+    /// - `Failed`, `Full`: a call of the disk failed. The journal is not open any more. Its file stands for the records with the rounds or without them.
+    pub fn append_all(&mut self, note: &B, batch: &Batch) -> Result<(), JournalError>
+        requires usable { IsTrue (D.Disk.is_usable (disk_behind self.old)) }
+        requires fits { FitsBehind batch.now self.old }
+        ensures acknowledged { OnOk result ((records new : List (List ℕ)) → IsSettled D.Disk.seen D.Disk.may_leave D.Disk.is_clean self.old records → Gathers batch.now new → IsSettled D.Disk.seen D.Disk.may_leave D.Disk.is_clean self.new (records ++ new)) }
+        ensures any_moment { (records new : List (List ℕ)) → IsSettled D.Disk.seen D.Disk.may_leave D.Disk.is_clean self.old records → Gathers batch.now new
+            → EachLeaves D.Disk.may_leave note.now (λ c. StandsFor (header_in self.old) c records ⊎ StandsFor (header_in self.old) c (records ++ new)) (clocked_of self.old) (clocked_of self.new) }
+        ensures crash { (records new : List (List ℕ)) → IsSettled D.Disk.seen D.Disk.may_leave D.Disk.is_clean self.old records → Gathers batch.now new
+            → (c : List ℕ) → D.Disk.may_leave (disk_behind self.new) c → StandsFor (header_in self.old) c records ⊎ StandsFor (header_in self.old) c (records ++ new) }
+        ensures not_open { IsFalse (is_ready self.old) → (self.new ≡ self.old) × (result ≡ Err NotOpen) }
+        ensures nothing { IsTrue (is_ready self.old) → Gathers batch.now [] → (self.new ≡ self.old) × (result ≡ Ok tt) }
+        ensures large { result ≡ Err TooLarge → (self.new ≡ self.old) × (2 ^ 62 ≤ gate_of self.old + (32 + bytes_gathered batch.now)) }
+        ensures opens { OnOk result (is_ready self.new ≡ is_ready self.old) }
+        ensures closes { IfErr result (λ e. e ≢ TooLarge → IsFalse (is_ready self.new)) }
+        ensures header { header_in self.new ≡ header_in self.old }
+        ensures cause { IfErr result (λ e. HasDiskCause e (D.Disk.faults (disk_behind self.old)) (D.Disk.faults (disk_behind self.new)) (D.Disk.tally_of (disk_behind self.old)).refused (D.Disk.tally_of (disk_behind self.new)).refused
+            × (e ≡ NotOpen → IsFalse (is_ready self.old))) }
+        ensures known { OnOk result (IsSome (len_of self.old) → IsSome (len_of self.new)) }
+        ensures steps { OnOk result ((records new : List (List ℕ)) → IsSettled D.Disk.seen D.Disk.may_leave D.Disk.is_clean self.old records → Gathers batch.now new
+            → GoesBySteps D.Disk.seen (header_in self.old) (clocked_of self.old) (clocked_of self.new)) }
+        ensures clean { D.Disk.is_clean (disk_behind self.new) ≡ D.Disk.is_clean (disk_behind self.old) }
+        ensures usable { OnOk result (IsTrue (D.Disk.is_usable (disk_behind self.new))) }
+    {
+        if !self.is_open {
+            return Err(JournalError::NotOpen);
+        }
+        let len = batch.text.len();
+        if len == 0 {
+            return Ok(());
+        }
+        if self.is_too_large(len) {
+            return Err(JournalError::TooLarge);
+        }
+        self.is_open = false;
+        let end = self.at + 8 + len;
+        write_behind(&mut self.disk, note, self.at + 8, &batch.text).map_err(write_error)?;
         put(&mut self.disk, note, self.at, b"opengate").map_err(write_error)?;
         self.len = match self.len {
             Some(len) => Some(len.max(end + 8)),

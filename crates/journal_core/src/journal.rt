@@ -21,6 +21,9 @@ use sqlite_disk::Disk;
 use std::alloc::Global;
 use std::io;
 
+/// So long no file grows, in bytes.
+pub(crate) const LARGEST: usize = 1 << 62;
+
 /// A journal in a file (own). It is opened by `start`, read to its end by `read`, and then written by `append`. After an error nothing more is written through it; who opens the file again finds
 /// all that was acknowledged.
 #[derive(Drop)]

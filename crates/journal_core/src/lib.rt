@@ -2,6 +2,7 @@
 #![tactic(auto)]
 
 mod appending;
+mod batch;
 mod clocked;
 mod error;
 mod header;
@@ -15,6 +16,7 @@ mod source;
 mod sum;
 mod writing;
 
+pub use batch::Batch;
 pub use clocked::Clocked;
 pub use error::JournalError;
 pub use header::Header;

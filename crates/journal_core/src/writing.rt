@@ -13,6 +13,9 @@ use crate::round::Round;
 use sqlite_disk::{Disk, is_no_room};
 use std::io::{self, ErrorKind};
 
+// So many zeros are written by one call: on a network's file system each call takes a while.
+static ZEROS: [[u8; 1024]; 1024] = [[0; 1024]; 1024];
+
 /// Writes bytes, and has them on the disk at `Ok`.
 pub(crate) fn put<D: Disk, B>(
     disk: &mut Clocked<D, B>,
@@ -95,6 +98,30 @@ pub(crate) fn write_round<D: Disk, B>(
     Ok(at)
 }
 
+/// Writes the text of rounds behind a gate that is shut, which ends at this place, and then another gate that is shut, and has them on the disk at `Ok`.
+pub(crate) fn write_behind<D: Disk, B>(
+    disk: &mut Clocked<D, B>,
+    note: &B,
+    at: usize,
+    text: &[u8],
+) -> io::Result<()>
+    requires usable { IsTrue (D.Disk.is_usable (disk_of disk.old)) }
+    requires some { 0 < length text.now }
+    requires fits { at + (8 + length text.now) < 2 ^ 64 }
+    ensures writes { OnOk result ((front : List ℕ) → length front ≡ at → BeginsWith front (D.Disk.seen (disk_of disk.old)) → BeginsWith (front ++ (text.now ++ shut_word)) (D.Disk.seen (disk_of disk.new))) }
+    ensures len { OnOk result (length (D.Disk.seen (disk_of disk.new)) ≡ max (length (D.Disk.seen (disk_of disk.old))) (at + (8 + length text.now))) }
+    ensures durable { OnOk result (Only (D.Disk.seen (disk_of disk.new)) (D.Disk.may_leave (disk_of disk.new))) }
+    ensures behind { WritesBehind D.Disk.seen D.Disk.may_leave note.now at disk.old disk.new }
+    ensures counts { IsCounted result (D.Disk.faults (disk_of disk.old)) (D.Disk.faults (disk_of disk.new)) (D.Disk.tally_of (disk_of disk.old)) (D.Disk.tally_of (disk_of disk.new)) }
+    ensures clean { D.Disk.is_clean (disk_of disk.new) ≡ D.Disk.is_clean (disk_of disk.old) }
+    ensures usable { OnOk result (IsTrue (D.Disk.is_usable (disk_of disk.new))) }
+{
+    let next = write_piece(disk, note, at, text)?;
+    let _end = write_piece(disk, note, next, b"shutgate")?;
+    disk.sync(note)?;
+    Ok(())
+}
+
 // Writes the parts of a round, one behind another.
 fn write_parts<D: Disk, B>(
     disk: &mut Clocked<D, B>,
@@ -140,7 +167,7 @@ pub(crate) fn lengthen<D: Disk, B>(
     ensures clean { D.Disk.is_clean (disk_of disk.new) ≡ D.Disk.is_clean (disk_of disk.old) }
     ensures usable { OnOk result (IsTrue (D.Disk.is_usable (disk_of disk.new))) }
 {
-    let zeros = [0u8; 4096];
+    let zeros = zeros();
     let mut at = from;
     'writing: while at < to {
         let count = (to - at).min(zeros.len());
@@ -155,6 +182,13 @@ pub(crate) fn lengthen<D: Disk, B>(
         }
     }
     disk.sync(note)
+}
+
+// What one call writes of them at most.
+fn zeros() -> &'static [u8]
+    ensures { 0 < length result.now }
+{
+    ZEROS.as_flattened()
 }
 
 // Whether no file may be as long as it would be, by a limit of its file system or of the process.

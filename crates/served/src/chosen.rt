@@ -2,7 +2,7 @@
 use crate::fronts::{Fronts, Logging};
 use crate::limits::Limits;
 use crate::log::LogFile;
-use crate::logins::{USER, read_users, told_users};
+use crate::logins::{USER, read_users, tell_of_nobody, told_users};
 use crate::stopped::Stopped;
 use crate::streams::Streams;
 use dav_handler_core::conditions::Scheme;
@@ -75,6 +75,9 @@ fn set_fronts<'a, I: Read>(
     fronts: &mut Fronts<'a>,
 ) -> Result<(), Stopped> {
     fronts.users = chosen_users(rt, choices, frames)?;
+    if let Some(users) = &fronts.users {
+        tell_of_nobody(rt, users);
+    }
     fronts.log = chosen_log(rt, choices)?;
     fronts.address_header = choices.address_header.take();
     Ok(())

@@ -18,7 +18,7 @@ use store_files::sync_folder;
 // The longest lease, in seconds. One that isn't known may be as long.
 const LONGEST: u64 = 60;
 
-/// Tells the listener the lease of whoever had this file last, waits until it says that this one is over, and notes the new one beside the file (own). The file is locked.
+/// Tells the listener the lease of whoever had this file last, waits until it says that this one is over, and notes the new one beside the file, unless it stands there already (own). The file is locked.
 ///
 /// - `Ended`: the input ended before, or another frame came.
 /// - `Refused`: the new lease could not be noted. `Stream`: a stream failed, or there is no memory.
@@ -29,10 +29,14 @@ pub(crate) fn wait_for<I: Read, O: Write>(
     streams: &mut Streams<I, O>,
 ) -> Result<(), Stopped> {
     let name = beside(rt, path, "lease")?;
-    let last = last_lease(rt, name.as_str());
+    let standing = standing_lease(rt, name.as_str());
+    let last = standing.unwrap_or(LONGEST);
     writeln!(streams.output, "locked {last}")?;
     streams.output.flush()?;
     take_frame(&mut streams.frames, Head::Go)?;
+    if standing == Some(seconds) {
+        return Ok(());
+    }
     note(rt, path, name.as_str(), seconds).map_err(failed)
 }
 
@@ -99,12 +103,10 @@ fn take_all<I: Read>(frames: &mut Frames<I>) -> u64 {
     0
 }
 
-// How many seconds the lease had that stands there.
-fn last_lease(rt: &HostRuntime, name: &str) -> u64 {
-    match fs::read(rt, name) {
-        Ok(text) => seconds_in(&text).unwrap_or(LONGEST),
-        Err(_) => LONGEST,
-    }
+// How many seconds the lease had that stands there; none where that isn't told.
+fn standing_lease(rt: &HostRuntime, name: &str) -> Option<u64> {
+    let text = fs::read(rt, name).ok()?;
+    seconds_in(&text)
 }
 
 // The seconds of a lease: a number of at most two digits, with a line feed behind it.

@@ -13,10 +13,13 @@ use rand_chacha::ChaCha20Rng;
 use rand_core::Rng;
 use std::alloc::Global;
 use std::fs;
-use std::io::{self, Read};
+use std::io::{self, Read, Write};
 
 /// The field by which the server is told who has logged in (own). What a client sends under this name is dropped.
 pub(crate) const USER: &str = "x-logged-in-user";
+
+// What is told where there is no user.
+const NOBODY: &str = "the file of users has no user, so nobody can log in\n";
 
 /// The users that the first frame has (own); none where it is another, or where the input ends.
 ///
@@ -49,6 +52,13 @@ pub(crate) fn read_users(rt: &HostRuntime, path: &str) -> Result<Users, Stopped>
         Err(error) => return Err(Stopped::NoUsers(error)),
     };
     Ok(Users::read(rt.alloc(), &file)?)
+}
+
+/// Tells it where there is no user (own).
+pub(crate) fn tell_of_nobody(rt: &HostRuntime, users: &Users) {
+    if users.is_empty() {
+        let _told = rt.stderr().write_all(NOBODY.as_bytes());
+    }
 }
 
 /// The service behind a login of these users, in the realm that is chosen (RFC 7617), on the system (own). Where a header is named, a proxy tells by it where a client is.

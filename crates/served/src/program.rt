@@ -34,7 +34,7 @@ const LOST: &str =
 
 // The words that the program takes.
 const USAGE: &str =
-    "usage: davserve [--help] [--one|--login] [--read-only] [--scheme http|https] [--prefix PATH] [--user-header NAME] [--address-header NAME] [--longest-timeout SECONDS] [--propfind-depth finite|infinite] [--max-body BYTES] [--window BYTES] [--waiting BYTES] [--unfinished BYTES] [--store FILE] [--existing] [--lease SECONDS] [--sync always|second] [--compact-over BYTES] [--compact-useless PERCENT] [--users FILE] [--realm TEXT] [--log FILE] [--seed NUMBER] [--clock NANOSECONDS|frames]\n";
+    "usage: davserve [--help] [--one|--login] [--read-only] [--scheme http|https] [--prefix PATH] [--user-header NAME] [--address-header NAME] [--longest-timeout SECONDS] [--propfind-depth finite|infinite] [--max-body BYTES] [--window BYTES] [--waiting BYTES] [--unfinished BYTES] [--store FILE] [--existing] [--began NANOSECONDS] [--lease SECONDS] [--sync always|second] [--compact-over BYTES] [--compact-useless PERCENT] [--users FILE] [--realm TEXT] [--log FILE] [--seed NUMBER] [--clock NANOSECONDS|frames]\n";
 
 /// Serves on the standard streams as the words behind the program's name choose, and tells on standard error why it ends, where that is not the end of the input. Its status.
 pub fn run(rt: &HostRuntime) -> ExitCode {
@@ -206,6 +206,7 @@ fn serve_file<R: Rng + Drop, C: Clock + Drop, I: Read + Drop, O: Write + Drop>(
         sync: choices.sync,
         compacting: choices.compacting,
         existing: choices.existing,
+        began: choices.began,
         lease: choices.lease,
         path,
         place,
@@ -265,6 +266,7 @@ fn told_stop(rt: &HostRuntime, stopped: &Stopped) -> ExitCode {
         Stopped::Unkept(error) => ended_by(rt, "a change could not be kept", error, 5),
         Stopped::Refused(error) => ended_by(rt, "the store is not opened", error, status_of(error)),
         Stopped::Missing(path) => missing(rt, path.as_str()),
+        Stopped::Other(path, began) => other(rt, path.as_str(), *began),
         Stopped::Empty(path) => empty(rt, path.as_str()),
         Stopped::Taken(path) => taken(rt, path.as_str()),
         Stopped::Lost => ended(rt, LOST, 10),
@@ -289,6 +291,14 @@ fn missing(rt: &HostRuntime, path: &str) -> ExitCode {
     let _written = writeln!(
         rt.stderr(),
         "the store is not opened: nothing stands at {path}, and with --existing none is made; davstore {path} new makes one"
+    );
+    ExitCode::from(6)
+}
+
+fn other(rt: &HostRuntime, path: &str, began: u64) -> ExitCode {
+    let _written = writeln!(
+        rt.stderr(),
+        "the store is not opened: {path} keeps another one, which began at {began}, and not when --began says"
     );
     ExitCode::from(6)
 }

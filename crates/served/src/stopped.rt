@@ -22,6 +22,8 @@ pub(crate) enum Stopped {
     InTheWay(String),
     /// Nothing stands at this path, where the file has to be there.
     Missing(String),
+    /// What the file at this path keeps began at this moment, and not at the one that is chosen.
+    Other(String, u64),
     /// The file at this path has no whole header.
     Empty(String),
     /// Something came to this path as a new file was made there.

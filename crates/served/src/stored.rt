@@ -1,6 +1,7 @@
 //! Serving with stores that a file keeps.
-ghost use Rattle.std.specs.Prelude.{◌≡◌, if◌then◌else◌, None, Some, IsErr, IsTrue, IfOk, IfSome};
+ghost use Rattle.std.specs.Prelude.{◌≡◌, if◌then◌else◌, None, Some, Ok, IsErr, IsTrue, IfOk, IfSome, OnOk};
 ghost use Rattle.sqlite_std_file.specs.File.{file_is_usable};
+ghost use Rattle.journal_core.specs.JournalReading.{header_of};
 ghost use Rattle.journal_core.specs.Resting.{disk_behind, is_ready};
 ghost use Rattle.store_files.specs.FoundStores.{MayBeOpened};
 
@@ -46,6 +47,8 @@ pub(crate) struct Keeping<'a> {
     pub(crate) compacting: Compacting,
     /// Whether the file has to be there: none is made then.
     pub(crate) existing: bool,
+    /// When what the file keeps has to have begun, in nanoseconds since 1970, where that is chosen. The file has to be there then.
+    pub(crate) began: Option<u64>,
     /// For how many seconds nobody else may serve the file behind the last touch, where machines share it.
     pub(crate) lease: Option<u64>,
     /// The path of the file.
@@ -65,7 +68,7 @@ struct Beginning<R, C> {
 /// Serves the connections that the frames are of, with the stores of a file, which keeps what they change (own). It begins at the moment that is chosen, or else at the system's. Where there is no file it is made, at this moment, unless it has to be there; where too much of it is of no use any more
 /// it is compacted first.
 ///
-/// - `Refused`: the file is refused, or could not be made, opened or read. `InTheWay`: beside it stands one that is no store, and has the name of the new file of a compaction. `Missing`: there is none, and it has to be there. `Empty`: it has no whole header. `Taken`: another one came there as it was made.
+/// - `Refused`: the file is refused, or could not be made, opened or read. `InTheWay`: beside it stands one that is no store, and has the name of the new file of a compaction. `Missing`: there is none, and it has to be there. `Other`: it keeps a store that began at another moment than the one that is chosen. `Empty`: it has no whole header. `Taken`: another one came there as it was made.
 /// - `Lost`: another file has its name before it is served. `Ended`: with a lease, the input ended before the file was served, or a frame was wrong.
 /// - `Unkept`: what was changed could not be kept. `WrongRealm`: the realm can't stand between quotes. `Stream`: a stream failed, or there is no memory, or the system does not tell the moment.
 pub(crate) fn serve_stored<R: Rng + Drop, C: Clock + Drop, I: Read, O: Write>(
@@ -79,8 +82,9 @@ pub(crate) fn serve_stored<R: Rng + Drop, C: Clock + Drop, I: Read, O: Write>(
 ) -> Result<End, Stopped> {
     let path = keeping.path;
     let now = first_moment(rt, began)?;
-    stand(rt, path, keeping.existing, now)?;
-    let found = find(rt, path, now, keeping.lease, streams, Wary);
+    let must_stand = keeping.existing || keeping.began.is_some();
+    stand(rt, path, must_stand, now)?;
+    let found = find(rt, path, now, &keeping, streams, Wary);
     if let Err(Stopped::Refused(StoreError::Journal(JournalError::Unsupported))) = &found {
         tell_version(rt, path);
     }
@@ -187,12 +191,12 @@ struct Found<D: Disk, B> {
     used: u64,
 }
 
-// Opens the file at this path and reads it, with a lease once whoever had it before has stopped. `Empty` where it has no whole header.
+// Opens the file at this path and reads it, with a lease once whoever had it before has stopped. `Other` where another store is chosen, and `Empty` where it has no whole header.
 fn find<S: Start, I: Read, O: Write>(
     rt: &HostRuntime,
     path: &str,
     now: Moment,
-    lease: Option<u64>,
+    keeping: &Keeping<'_>,
     streams: &mut Streams<I, O>,
     start: S,
 ) -> Result<Found<FileFrom<S>, O>, Stopped>
@@ -200,7 +204,8 @@ fn find<S: Start, I: Read, O: Write>(
 {
     let new = header_of(rt, 0, now.0)?;
     let (mut journal, reader) = open(rt, path, new, &streams.output, start)?;
-    if let Some(seconds) = lease {
+    check_began(rt.alloc(), path, &reader, keeping.began)?;
+    if let Some(seconds) = keeping.lease {
         wait_for(rt, path, seconds, streams)?;
     }
     let output = &streams.output;
@@ -213,6 +218,26 @@ fn find<S: Start, I: Read, O: Write>(
         opened,
         used,
     })
+}
+
+// What the file keeps began at this moment, where one is chosen. A file without a header is refused later.
+fn check_began(
+    alloc: Global,
+    path: &str,
+    reader: &Option<Reader>,
+    began: Option<u64>,
+) -> Result<(), Stopped>
+    ensures began { OnOk result (IfSome began (λ moment. IfSome reader.now (λ r. (header_of r).began ≡ moment))) }
+    ensures any { began ≡ None → result ≡ Ok tt }
+{
+    let (Some(reader), Some(moment)) = (reader, began) else {
+        return Ok(());
+    };
+    let found = reader.header().began;
+    if found == moment {
+        return Ok(());
+    }
+    Err(Stopped::Other(String::from_str(alloc, path)?, found))
 }
 
 // The file that was compacted, where too much of it was of no use any more. That is told, and so is where it could not be done, and the old one is used on.

@@ -111,6 +111,8 @@ pub struct Choices {
     pub store: Option<String>,
     /// Whether that file has to be there: none is made then.
     pub existing: bool,
+    /// When what that file keeps began, in nanoseconds since 1970, where it has to be the file of one store and of no other; it has to be there then.
+    pub began: Option<u64>,
     /// For how many seconds nobody else may serve that file behind the last touch, where machines share it: 1 to 60.
     pub lease: Option<u64>,
     /// When that file has what is changed.
@@ -129,7 +131,7 @@ pub struct Choices {
 
 impl Choices {
     /// Perhaps `--one` or `--login`, and behind it `--read-only` and `--existing`, which have no value, and options, each with its value, in any order; of one that comes twice the last counts. `OutOfMemory`
-    /// where there is no memory for it. `Unknown` where a word is none of these, `Value` where a value is missing or isn't one; and `Usage` where stores that a file keeps meet `--one` or a seed, or nothing is kept and it is to be there already, to have a lease or to be synced each second, users `--one` or
+    /// where there is no memory for it. `Unknown` where a word is none of these, `Value` where a value is missing or isn't one; and `Usage` where stores that a file keeps meet `--one` or a seed, or nothing is kept and it is to be there already, to have begun at a moment, to have a lease or to be synced each second, users `--one` or
     /// a header that names the principal, a file of users `--login`, or `--read-only` or a log `--one`.
     pub fn of(alloc: Global, words: &[String]) -> Result<Choices, Unread> {
         let mut choices = Choices::unsaid(alloc)?;
@@ -157,6 +159,7 @@ impl Choices {
             log: None,
             store: None,
             existing: false,
+            began: None,
             lease: None,
             sync: Sync::Always,
             compacting: Compacting {
@@ -281,6 +284,8 @@ impl Choices {
             self.store = Some(file_of(alloc, value)?);
         } else if name == "--sync" {
             self.sync = sync_of(value)?;
+        } else if name == "--began" {
+            self.began = Some(value.parse()?);
         } else if name == "--lease" {
             self.lease = Some(lease_of(value)?);
         } else if name == "--compact-over" {
@@ -321,7 +326,7 @@ impl Choices {
 
     // Whether something is said of a file that keeps the stores.
     fn says_how_kept(&self) -> bool {
-        self.existing || self.lease.is_some() || self.sync == Sync::Second
+        self.existing || self.began.is_some() || self.lease.is_some() || self.sync == Sync::Second
     }
 
     // Whether what is chosen goes together. A server behind a login is told by a field of its own who logged in, and by no other.

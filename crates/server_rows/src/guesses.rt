@@ -29,10 +29,11 @@ const LIMITED: &str = "\
 1 192.0.2.1 Ym9iOjM= 401\n\
 1 192.0.2.1 ZXZlOjQ= 401\n\
 1 192.0.2.1 ZXZlOjU= 401\n\
-1 192.0.2.1 ZXZlOjY= 429\n\
-1 192.0.2.1 ZXZlOjc= 429\n\
-2 192.0.2.1 ZXZlOjc= 429\n\
-2 192.0.2.1 YW5uOjE= 429\n\
+1 192.0.2.1 ZXZlOjY= 401\n\
+1 192.0.2.1 ZXZlOjc= 401\n\
+1 192.0.2.1 ZXZlOjg= 429\n\
+2 192.0.2.1 ZXZlOjg= 429\n\
+2 192.0.2.1 YW5uOjE= 401\n\
 1 192.0.2.1 YW5uOjE= 401\n\
 1 192.0.2.1 YW5uOnNlY3JldA== 200\n\
 1 192.0.2.1 Ym9iOnDDpDpzcw== 429\n\
@@ -40,11 +41,11 @@ const LIMITED: &str = "\
 3 192.0.2.2 Ym9iOnDDpDpzcw== 200\n\
 1 192.0.2.1 Ym9iOnDDpDpzcw== 200\n\
 later 1\n\
-1 192.0.2.1 ZXZlOjY= 401\n\
-1 192.0.2.1 ZXZlOjc= 429\n\
+1 192.0.2.1 ZXZlOjk= 401\n\
+1 192.0.2.1 ZXZlOjEw 429\n\
 later 60\n\
-1 192.0.2.1 ZXZlOjc= 401\n\
-1 192.0.2.1 ZXZlOjg= 401";
+1 192.0.2.1 ZXZlOjEw 401\n\
+1 192.0.2.1 ZXZlOjEx 401";
 
 // The same, where a field is chosen that tells addresses: its value stands behind a `/`, where the request has it.
 const TOLD: &str = "\
@@ -80,7 +81,7 @@ list wrong\n\
 1 192.0.2.1 Ym9iOnDDpDpzcw== 200\n\
 list another\n\
 1 192.0.2.1 YW5uOnNlY3JldA== 200\n\
-1 192.0.2.1 Ym9iOnDDpDpzcw== 429\n\
+1 192.0.2.1 Ym9iOnDDpDpzcw== 401\n\
 2 192.0.2.2 Ym9iOnDDpDpzcw== 401\n\
 2 192.0.2.2 Ym9iOnNlY3JldA== 200\n\
 list wrong\n\
@@ -88,6 +89,89 @@ list wrong\n\
 list same\n\
 1 192.0.2.1 YW5uOnNlY3JldA== 200\n\
 2 192.0.2.2 Ym9iOnNlY3JldA== 401";
+
+// The same of addresses of one network, and of one more.
+const OF_IPV4: &str = "\
+1 192.0.2.1 YW5uOjE= 401\n\
+1 192.0.2.1:5 YW5uOjI= 401\n\
+1 192.0.2.1:65535 Ym9iOjM= 401\n\
+1 ::ffff:192.0.2.1 ZXZlOjQ= 401\n\
+1 [::ffff:c000:201]:5 ZXZlOjU= 401\n\
+1 192.0.2.1 ZXZlOjY= 429\n\
+2 192.0.2.1:6 ZXZlOjY= 429\n\
+2 ::ffff:192.0.2.1 ZXZlOjY= 429\n\
+2 ::FFFF:C000:201 ZXZlOjY= 429\n\
+2 [::ffff:192.0.2.1] ZXZlOjY= 429\n\
+2 192.0.2.2 ZXZlOjY= 401";
+
+const OF_IPV6: &str = "\
+1 2001:db8::1 YW5uOjE= 401\n\
+1 2001:db8::2 YW5uOjI= 401\n\
+1 [2001:db8::3]:5 Ym9iOjM= 401\n\
+1 [2001:db8::3] ZXZlOjQ= 401\n\
+1 2001:db8:0:0:ffff::1 ZXZlOjU= 401\n\
+2 2001:db8::4 ZXZlOjY= 429\n\
+2 2001:DB8:0:0:1:2:192.0.2.1 ZXZlOjY= 429\n\
+2 2001:db8:0:1::1 ZXZlOjY= 401";
+
+const OF_NONE: &str = "\
+1 unix YW5uOjE= 401\n\
+1 localhost YW5uOjI= 401\n\
+1 192.0.2 Ym9iOjM= 401\n\
+1 192.0.2.01 ZXZlOjQ= 401\n\
+1 2001:db8::1::2 ZXZlOjU= 401\n\
+2 192.0.2.256:5 ZXZlOjY= 429\n\
+2 h:5 ZXZlOjY= 429\n\
+2 192.0.2.1 ZXZlOjY= 401";
+
+// The same of all together: who had a wrong one just now has the upper half, and each other one the rest. A right one counts among them.
+const OF_ALL: &str = "\
+1 192.0.2.1 YW5uOjE= 401\n\
+1 192.0.2.1 YW5uOjI= 401\n\
+1 192.0.2.1 Ym9iOjM= 401\n\
+1 192.0.2.1 ZXZlOjQ= 401\n\
+1 192.0.2.1 ZXZlOjU= 401\n\
+2 192.0.2.2 YW5uOjE= 401\n\
+2 192.0.2.2 YW5uOjI= 401\n\
+2 192.0.2.2 Ym9iOjM= 401\n\
+2 192.0.2.2 ZXZlOjQ= 401\n\
+2 192.0.2.2 ZXZlOjU= 401\n\
+3 192.0.2.3 YW5uOjE= 401\n\
+3 192.0.2.3 YW5uOjI= 429\n\
+4 192.0.2.4 YW5uOnNlY3JldA== 200\n\
+5 192.0.2.5 YW5uOjE= 401\n\
+6 192.0.2.6 YW5uOjE= 401\n\
+7 192.0.2.7 YW5uOjE= 401\n\
+8 192.0.2.8 YW5uOjE= 401\n\
+9 192.0.2.9 YW5uOjE= 401\n\
+10 192.0.2.10 YW5uOjE= 401\n\
+11 192.0.2.11 YW5uOjE= 401\n\
+12 192.0.2.12 YW5uOjE= 401\n\
+13 192.0.2.13 YW5uOjE= 429\n\
+14 192.0.2.14 Ym9iOnDDpDpzcw== 429\n\
+14 192.0.2.14 YW5uOnNlY3JldA== 200\n\
+later 1\n\
+14 192.0.2.14 Ym9iOnDDpDpzcw== 200";
+
+// The same of a name that was let in from an address, for a day.
+const OF_FRIENDS: &str = "\
+1 192.0.2.1 YW5uOnNlY3JldA== 200\n\
+1 192.0.2.1 ZXZlOjE= 401\n\
+1 192.0.2.1 ZXZlOjI= 401\n\
+1 192.0.2.1 ZXZlOjM= 401\n\
+1 192.0.2.1 ZXZlOjQ= 401\n\
+1 192.0.2.1 ZXZlOjU= 401\n\
+1 192.0.2.1 ZXZlOjY= 429\n\
+1 192.0.2.1 Ym9iOnDDpDpzcw== 429\n\
+1 192.0.2.1 YW5uOjE= 401\n\
+1 192.0.2.1 YW5uOjI= 401\n\
+later 86401\n\
+1 192.0.2.1 ZXZlOjY= 401\n\
+1 192.0.2.1 ZXZlOjc= 401\n\
+1 192.0.2.1 ZXZlOjg= 401\n\
+1 192.0.2.1 ZXZlOjk= 401\n\
+1 192.0.2.1 ZXZlOjEw 401\n\
+1 192.0.2.1 YW5uOjM= 429";
 
 const ANOTHER: &str = "\
 ann:$5$saltsalt$0IyaXrmV7.sGNS6tirgqHLqX/G.FBvgkYA.lpPdS5sA\n\
@@ -108,6 +192,33 @@ fn told_addresses_are_limited(rt: HostRuntime) -> Result<(), Fail> {
     let field = HeaderName::from_static(FIELD);
     let mut login = login(rt.alloc(), &now, &told, Some(field))?;
     play(&rt, rt.alloc(), &mut login, &now, TOLD)
+}
+
+#[test]
+fn networks_are_limited(rt: HostRuntime) -> Result<(), Fail> {
+    let now = Cell::new(5_000_000_000);
+    let told = Cell::new(0);
+    for rows in [OF_IPV4, OF_IPV6, OF_NONE] {
+        let mut login = login(rt.alloc(), &now, &told, None)?;
+        play(&rt, rt.alloc(), &mut login, &now, rows)?;
+    }
+    Ok(())
+}
+
+#[test]
+fn all_are_limited(rt: HostRuntime) -> Result<(), Fail> {
+    let now = Cell::new(5_000_000_000);
+    let told = Cell::new(0);
+    let mut login = login(rt.alloc(), &now, &told, None)?;
+    play(&rt, rt.alloc(), &mut login, &now, OF_ALL)
+}
+
+#[test]
+fn names_have_guesses_of_their_own(rt: HostRuntime) -> Result<(), Fail> {
+    let now = Cell::new(5_000_000_000);
+    let told = Cell::new(0);
+    let mut login = login(rt.alloc(), &now, &told, None)?;
+    play(&rt, rt.alloc(), &mut login, &now, OF_FRIENDS)
 }
 
 #[test]

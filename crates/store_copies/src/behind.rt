@@ -1,8 +1,7 @@
 //! What stands behind the gate that is shut, or behind the place where a file is broken.
-ghost use Rattle.std.specs.Prelude.{◌≡◌, drop};
 
 use crate::placed::{Placed, read_word};
-use journal_copies::{find_round, read_round, records_in, whole_round};
+use journal_copies::{find_round, read_round, records_in, records_of, whole_round};
 use std::fs::File;
 use std::io::{self, Read};
 
@@ -39,16 +38,6 @@ pub fn round_behind(
         })),
         None => Ok(None),
     }
-}
-
-/// The bytes of the records of a round that was read.
-pub fn records_of(round: &[u8]) -> &[u8]
-    ensures { result.now ≡ drop 16 round.now }
-{
-    if round.len() < 16 {
-        return &[];
-    }
-    &round[16..]
 }
 
 /// The bytes of a file from one byte on, of which a piece at a time is held (own).

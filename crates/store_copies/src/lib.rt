@@ -2,10 +2,12 @@
 #![tactic(auto)]
 
 mod behind;
+mod coming;
 mod failures;
 mod following;
 mod naming;
 mod placed;
+mod putting;
 mod taking;
 
 pub use behind::{Found, Tail, round_behind};

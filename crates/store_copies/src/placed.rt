@@ -1,4 +1,7 @@
 //! A file that is read from a place, without a lock.
+ghost use Rattle.std.specs.Prelude.{IfOk, IfSome};
+ghost use Rattle.std.specs.Io.KnownBytes.{Consumes};
+
 use std::fs::File;
 use std::io::{self, Read};
 use std::os::unix::fs::FileExt;
@@ -30,7 +33,9 @@ impl Read for Placed<'_> {
 }
 
 /// The next eight bytes; none where fewer are left.
-pub fn read_word<R: Read>(input: &mut R) -> io::Result<Option<[u8; 8]>> {
+pub fn read_word<R: Read>(input: &mut R) -> io::Result<Option<[u8; 8]>>
+    ensures { IfOk result (λ some. IfSome some (λ word. Consumes (R.Read.remaining input.old) (R.Read.remaining input.new) word)) }
+{
     let mut word = [0u8; 8];
     match input.read_exact(&mut word) {
         Ok(()) => Ok(Some(word)),

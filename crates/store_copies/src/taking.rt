@@ -1,27 +1,24 @@
 //! Taking: what `follow` writes is added to a copy.
-ghost use Rattle.std.specs.Prelude.{◌≡◌, ◌≢◌, ◌++◌, [], drop, ℕ, List, Ok, None, true, IsTrue, IfOk, OnOk};
-ghost use Rattle.sqlite_std_file.specs.File.{file_is_usable};
-ghost use Rattle.journal_core.specs.Format.{records_text};
+ghost use Rattle.std.specs.Prelude.{◌≡◌, ◌++◌, [], ◌∷◌, drop, ℕ, List, Ok, None, true, IsTrue, OnOk};
+ghost use Rattle.std.specs.Io.Buffered.{reader_remaining};
+ghost use Rattle.std.specs.Io.KnownBytes.{Consumes};
 ghost use Rattle.journal_core.specs.Resting.{IsSettled, disk_behind};
-ghost use Rattle.journal_file.specs.JournalFiles.{file_is_clean, file_may_leave, file_seen};
-ghost use Rattle.store_copies.specs.TakenRounds.{AddsRound, HasInFront, HasRoundAlone};
+ghost use Rattle.journal_copies.specs.ReadRounds.{HoldRecords, records_of_all};
+ghost use Rattle.store_copies.specs.TakenRounds.{AddsRounds, Came, HasInFront};
 
-use crate::behind::records_of;
+use crate::coming::{Next, come_by_now, end_of, read_next};
 use crate::failures::Failure;
-use crate::naming::{
-    before_of, give_name, give_up, open_copy, real_path, reserve, standing_header, take_turn,
-    turn_at_own,
-};
+use crate::naming::{open_copy, real_path, standing_header, take_turn, turn_at_own};
 use crate::placed::{FIRST_GATE, read_word};
-use journal_copies::{append_text, next_round, read_round, records_in};
+use crate::putting::{append_read, put_file};
+use journal_copies::{next_round, records_in, records_of};
 use journal_core::{Header, Journal, JournalError, Reader, Stream};
-use journal_file::open;
 use sqlite_disk::Disk;
-use sqlite_std_file::{FileFrom, Start, Wary};
+use sqlite_std_file::{FileFrom, Wary};
 use std::alloc::{AllocError, Global};
 use std::fs::File;
 use std::io::{self, BufReader, BufWriter, ErrorKind, Read, Write};
-use store_files::{Anew, HEADER, Progress, clear, draft_of, make_like};
+use store_files::{Anew, HEADER, Progress};
 
 // What is told where another store comes.
 const OTHER: &str = "another store comes, and not a later generation of this one";
@@ -121,7 +118,11 @@ fn read_front<I: Read>(alloc: Global, input: &mut I) -> Result<Option<Front>, Fa
 }
 
 // Begins with the first file of the stream.
-fn begin<I: Read>(front: Front, input: &mut I, taken: &mut Taken<'_>) -> Result<End, Failure> {
+fn begin<I: Read>(
+    front: Front,
+    input: &mut BufReader<I>,
+    taken: &mut Taken<'_>,
+) -> Result<End, Failure> {
     let rt = taken.rt;
     let real = real_path(rt, taken.path)?;
     let Some(header) = standing_header(rt, real.as_str())? else {
@@ -151,7 +152,7 @@ fn begin_behind<D: Disk, I: Read>(
     real: &str,
     header: Header,
     front: Front,
-    input: &mut I,
+    input: &mut BufReader<I>,
     taken: &mut Taken<'_>,
 ) -> Result<End, Failure>
     requires usable { IsTrue (D.Disk.is_usable (disk_behind journal.old)) }
@@ -172,7 +173,7 @@ fn begin_later<D: Disk, I: Read>(
     real: &str,
     header: Header,
     front: Front,
-    input: &mut I,
+    input: &mut BufReader<I>,
     taken: &mut Taken<'_>,
 ) -> Result<End, Failure>
     requires usable { IsTrue (D.Disk.is_usable (disk_behind journal.old)) }
@@ -194,7 +195,7 @@ fn take_anew<I: Read>(
     real: &str,
     had: Option<Header>,
     front: Front,
-    input: &mut I,
+    input: &mut BufReader<I>,
     taken: &mut Taken<'_>,
 ) -> Result<End, Failure> {
     let mut held = None;
@@ -207,7 +208,7 @@ fn take_files<I: Read>(
     held: &mut Option<Journal<FileFrom<Anew>, ()>>,
     had: Option<Header>,
     front: Front,
-    input: &mut I,
+    input: &mut BufReader<I>,
     taken: &mut Taken<'_>,
 ) -> Result<End, Failure> {
     let (mut had, mut front) = (had, front);
@@ -235,7 +236,7 @@ fn take_file<I: Read>(
     had: Option<Header>,
     front: Front,
     round: &[u8],
-    input: &mut I,
+    input: &mut BufReader<I>,
     taken: &mut Taken<'_>,
 ) -> Result<End, Failure> {
     let mut journal = put_file(taken.rt, real, had, front.header, round, Anew)?;
@@ -276,180 +277,12 @@ fn first_round<I: Read>(rt: &HostRuntime, front: Front, input: &mut I) -> Result
     }
 }
 
-// Puts a file with its first round at the path, in place of the one that has this header, or where there is none.
-fn put_file<S: Start>(
-    rt: &HostRuntime,
-    real: &str,
-    had: Option<Header>,
-    header: Header,
-    round: &[u8],
-    start: S,
-) -> Result<Journal<FileFrom<S>, ()>, Failure>
-    ensures usable { IfOk result (λ journal. IsTrue (file_is_usable S.Start (disk_behind journal))) }
-    ensures taken { IfOk result (λ journal. HasRoundAlone (file_seen S.Start) (file_may_leave S.Start) (file_is_clean S.Start) journal round.now) }
-{
-    match had {
-        Some(old) => replace(rt, real, old, header, round, start),
-        None => put_first(rt, real, header, round, start),
-    }
-}
-
-// Puts the file at the path where no store stands.
-fn put_first<S: Start>(
-    rt: &HostRuntime,
-    real: &str,
-    header: Header,
-    round: &[u8],
-    start: S,
-) -> Result<Journal<FileFrom<S>, ()>, Failure>
-    ensures usable { IfOk result (λ journal. IsTrue (file_is_usable S.Start (disk_behind journal))) }
-    ensures taken { IfOk result (λ journal. HasRoundAlone (file_seen S.Start) (file_may_leave S.Start) (file_is_clean S.Start) journal round.now) }
-{
-    let draft = draft_of(rt, real, header.key, header.generation)?;
-    let reserved = reserve(rt, real)?;
-    match write_beside(rt, real, draft.as_str(), None, header, round, start) {
-        Ok(journal) => Ok(journal),
-        Err(error) => {
-            let _given_up = give_up(rt, real, &reserved);
-            Err(error)
-        }
-    }
-}
-
-// Puts the file at the path in place of the one that has this header, which stays under another name; that is told.
-fn replace<S: Start>(
-    rt: &HostRuntime,
-    real: &str,
-    old: Header,
-    header: Header,
-    round: &[u8],
-    start: S,
-) -> Result<Journal<FileFrom<S>, ()>, Failure>
-    ensures usable { IfOk result (λ journal. IsTrue (file_is_usable S.Start (disk_behind journal))) }
-    ensures taken { IfOk result (λ journal. HasRoundAlone (file_seen S.Start) (file_may_leave S.Start) (file_is_clean S.Start) journal round.now) }
-{
-    let draft = draft_of(rt, real, old.key, header.generation)?;
-    let before = before_of(rt, real, old.generation)?;
-    let kept = Some(before.as_str());
-    let journal = write_beside(rt, real, draft.as_str(), kept, header, round, start)?;
-    writeln!(rt.stdout(), "kept: {before}")?;
-    Ok(journal)
-}
-
-// Writes the first round into a draft beside the path, and gives it the name, which is on the disk then. What had the name stays under this one, where there is one.
-fn write_beside<S: Start>(
-    rt: &HostRuntime,
-    real: &str,
-    draft: &str,
-    before: Option<&str>,
-    header: Header,
-    round: &[u8],
-    start: S,
-) -> Result<Journal<FileFrom<S>, ()>, Failure>
-    ensures usable { IfOk result (λ journal. IsTrue (file_is_usable S.Start (disk_behind journal))) }
-    ensures taken { IfOk result (λ journal. HasRoundAlone (file_seen S.Start) (file_may_leave S.Start) (file_is_clean S.Start) journal round.now) }
-{
-    make_beside(rt, real, draft, header)?;
-    let (mut journal, found) = open(rt, draft, header, &(), start)?;
-    if found.is_some() {
-        return Err(in_the_way(rt, draft)?);
-    }
-    append_beside(rt, real, draft, before, &mut journal, round)?;
-    Ok(journal)
-}
-
-// Makes the draft, without a byte.
-fn make_beside(rt: &HostRuntime, real: &str, draft: &str, header: Header) -> Result<(), Failure> {
-    clear(rt, draft, header.began, header.generation)?;
-    Ok(make_like(rt, real, draft)?)
-}
-
-// What is told of a path at which something stands in the way.
-fn in_the_way(rt: &HostRuntime, path: &str) -> Result<Failure, AllocError> {
-    let error = io::Error::from(ErrorKind::AlreadyExists);
-    Ok(Failure::At(String::from_str(rt.alloc(), path)?, error))
-}
-
-// Appends the first round, and then gives the new file its name.
-fn append_beside<D: Disk>(
-    rt: &HostRuntime,
-    real: &str,
-    draft: &str,
-    before: Option<&str>,
-    journal: &mut Journal<D, ()>,
-    round: &[u8],
-) -> Result<(), Failure>
-    requires usable { IsTrue (D.Disk.is_usable (disk_behind journal.old)) }
-    requires anew { IsTrue (D.Disk.is_clean (disk_behind journal.old)) → IsSettled D.Disk.seen D.Disk.may_leave D.Disk.is_clean journal.old [] }
-    ensures taken { OnOk result (HasRoundAlone D.Disk.seen D.Disk.may_leave D.Disk.is_clean journal.new round.now) }
-    ensures usable { OnOk result (IsTrue (D.Disk.is_usable (disk_behind journal.new))) }
-{
-    append_round(rt.alloc(), journal, round)?;
-    put_in_place(rt, real, draft, before, journal, round)
-}
-
-// Gives the draft the name of the copy, once its first round is on the disk.
-fn put_in_place<D: Disk>(
-    rt: &HostRuntime,
-    real: &str,
-    draft: &str,
-    before: Option<&str>,
-    _journal: &Journal<D, ()>,
-    _round: &[u8],
-) -> Result<(), Failure>
-    requires { HasRoundAlone D.Disk.seen D.Disk.may_leave D.Disk.is_clean _journal.now _round.now }
-{
-    give_name(rt, draft, real, before)
-}
-
-// Appends a round to a journal that is open, so that its records stand behind those that it has, on its disk.
-fn append_round<D: Disk>(
-    alloc: Global,
-    journal: &mut Journal<D, ()>,
-    round: &[u8],
-) -> Result<(), Failure>
-    requires usable { IsTrue (D.Disk.is_usable (disk_behind journal.old)) }
-    ensures taken { OnOk result ((records new : List (List ℕ)) → IsSettled D.Disk.seen D.Disk.may_leave D.Disk.is_clean journal.old records → drop 16 round.now ≡ records_text new
-        → IsSettled D.Disk.seen D.Disk.may_leave D.Disk.is_clean journal.new (records ++ new)) }
-    ensures clean { D.Disk.is_clean (disk_behind journal.new) ≡ D.Disk.is_clean (disk_behind journal.old) }
-    ensures usable { OnOk result (IsTrue (D.Disk.is_usable (disk_behind journal.new))) }
-{
-    if !append_text(alloc, journal, &(), records_of(round))? {
-        return Err(Failure::from(io::Error::from(ErrorKind::InvalidData)));
-    }
-    Ok(())
-}
-
-// What comes next in the stream.
-#[derive(Drop)]
-enum Next {
-    Round(Vec<u8>),
-    // The file that was followed is no more.
-    Shut,
-    Ended,
-    // No whole round comes.
-    Cut,
-}
-
-fn read_next<I: Read>(alloc: Global, input: &mut I, key: u64, place: u64) -> Result<Next, Failure> {
-    let Some(word) = read_word(input)? else {
-        return Ok(Next::Ended);
-    };
-    if word == *b"shutgate" {
-        return Ok(Next::Shut);
-    }
-    match read_round(alloc, input, key, place as usize)? {
-        Some(round) => Ok(Next::Round(round)),
-        None => Ok(Next::Cut),
-    }
-}
-
 // Adds the rounds that come, behind those that the copy has, which are passed first.
 fn go_on<D: Disk, I: Read>(
     journal: &mut Journal<D, ()>,
     copy: &mut Option<Reader>,
     front: Front,
-    input: &mut I,
+    input: &mut BufReader<I>,
     taken: &mut Taken<'_>,
 ) -> Result<End, Failure>
     requires usable { IsTrue (D.Disk.is_usable (disk_behind journal.old)) }
@@ -464,15 +297,8 @@ fn go_on<D: Disk, I: Read>(
         );
     }
     'taking: for _ in 0..u64::MAX {
-        match read_next(rt.alloc(), input, front.header.key, taken.place)? {
-            Next::Round(round) => {
-                if !taken.take_round(journal, copy, &round)? {
-                    return refused_at(rt, "the copy has another round", taken.place);
-                }
-            }
-            Next::Ended => return Ok(End::Stream),
-            Next::Cut => return refused_at(rt, "the stream has no whole round", taken.place),
-            Next::Shut => return begin_next(rt.alloc(), input),
+        if let Some(end) = taken.take_next(journal, copy, front.header.key, input)? {
+            return Ok(end);
         }
     }
     Ok(End::Stream)
@@ -530,29 +356,6 @@ fn pass_to<D: Disk>(
     Ok(false)
 }
 
-// Appends a round where the copy has none at its gate, as it has not once it was read to its end. What it had there; but for another round, it has this one then, on its disk.
-fn add_round<D: Disk>(
-    alloc: Global,
-    journal: &mut Journal<D, ()>,
-    copy: &mut Option<Reader>,
-    place: u64,
-    round: &[u8],
-) -> Result<There, Failure>
-    requires usable { IsTrue (D.Disk.is_usable (disk_behind journal.old)) }
-    ensures taken { IfOk result (λ there. there ≢ There.Other
-        → AddsRound D.Disk.seen D.Disk.may_leave D.Disk.is_clean journal.old copy.old journal.new copy.new round.now) }
-    ensures usable { OnOk result (IsTrue (D.Disk.is_usable (disk_behind journal.new))) }
-{
-    match look_there(alloc, journal, copy, place, round)? {
-        There::Same => Ok(There::Same),
-        There::Other => Ok(There::Other),
-        There::None => {
-            append_round(alloc, journal, round)?;
-            Ok(There::None)
-        }
-    }
-}
-
 // What the copy has at a gate.
 #[derive(Drop)]
 enum There {
@@ -570,7 +373,7 @@ fn look_there<D: Disk>(
     round: &[u8],
 ) -> Result<There, Failure>
     requires usable { IsTrue (D.Disk.is_usable (disk_behind journal.old)) }
-    ensures same { result ≡ Ok There.Same → AddsRound D.Disk.seen D.Disk.may_leave D.Disk.is_clean journal.old copy.old journal.new copy.new round.now }
+    ensures same { result ≡ Ok There.Same → AddsRounds D.Disk.seen D.Disk.may_leave D.Disk.is_clean journal.old copy.old journal.new copy.new (round.now ∷ []) }
     ensures none { result ≡ Ok There.None → (copy.new ≡ None) × ((records : List (List ℕ)) → HasInFront D.Disk.seen D.Disk.may_leave D.Disk.is_clean journal.old copy.old records
         → IsTrue (D.Disk.is_clean (disk_behind journal.new)) → IsSettled D.Disk.seen D.Disk.may_leave D.Disk.is_clean journal.new records) }
     ensures usable { IsTrue (D.Disk.is_usable (disk_behind journal.new)) }
@@ -596,28 +399,91 @@ fn is_of(text: &[u8], round: &[u8]) -> bool
 }
 
 impl Taken<'_> {
-    // Adds a round where the copy does not have it, and counts it; false where the copy has another one. Else the copy has it then, on its disk.
-    fn take_round<D: Disk>(
+    // Takes the next round, with those that have come behind it. Why the rounds come to an end, where they do.
+    fn take_next<D: Disk, I: Read>(
         &mut self,
         journal: &mut Journal<D, ()>,
         copy: &mut Option<Reader>,
-        round: &[u8],
-    ) -> Result<bool, Failure>
+        key: u64,
+        input: &mut BufReader<I>,
+    ) -> Result<Option<End>, Failure>
         requires usable { IsTrue (D.Disk.is_usable (disk_behind journal.old)) }
-        ensures taken { result ≡ Ok true → AddsRound D.Disk.seen D.Disk.may_leave D.Disk.is_clean journal.old copy.old journal.new copy.new round.now }
+        ensures taken { result ≡ Ok None → (came : List (List ℕ)) × (bytes : List ℕ) × Came came bytes × Consumes (reader_remaining I.Read.remaining input.old) (reader_remaining I.Read.remaining input.new) bytes
+            × AddsRounds D.Disk.seen D.Disk.may_leave D.Disk.is_clean journal.old copy.old journal.new copy.new came }
         ensures usable { OnOk result (IsTrue (D.Disk.is_usable (disk_behind journal.new))) }
     {
-        match add_round(self.rt.alloc(), journal, copy, self.place, round)? {
-            There::Other => Ok(false),
+        let rt = self.rt;
+        match read_next(rt.alloc(), input, key, self.place)? {
+            Next::Round(round) => self.take_round(journal, copy, key, &round, input),
+            Next::Ended => Ok(Some(End::Stream)),
+            Next::Cut => Ok(Some(self.refused_cut()?)),
+            Next::Shut => Ok(Some(begin_next(rt.alloc(), input)?)),
+        }
+    }
+
+    // Takes a round that was read. Where the copy does not have it, it is added with those that have come behind it; then the copy has them, on its disk.
+    fn take_round<D: Disk, I: Read>(
+        &mut self,
+        journal: &mut Journal<D, ()>,
+        copy: &mut Option<Reader>,
+        key: u64,
+        round: &[u8],
+        input: &mut BufReader<I>,
+    ) -> Result<Option<End>, Failure>
+        requires usable { IsTrue (D.Disk.is_usable (disk_behind journal.old)) }
+        ensures taken { result ≡ Ok None → (more : List (List ℕ)) × (bytes : List ℕ) × Came more bytes × Consumes (reader_remaining I.Read.remaining input.old) (reader_remaining I.Read.remaining input.new) bytes
+            × AddsRounds D.Disk.seen D.Disk.may_leave D.Disk.is_clean journal.old copy.old journal.new copy.new (round.now ∷ more) }
+        ensures usable { OnOk result (IsTrue (D.Disk.is_usable (disk_behind journal.new))) }
+    {
+        match look_there(self.rt.alloc(), journal, copy, self.place, round)? {
+            There::Other => Ok(Some(refused_at(
+                self.rt,
+                "the copy has another round",
+                self.place,
+            )?)),
             There::Same => {
                 self.pass(round);
-                Ok(true)
+                Ok(None)
             }
-            There::None => {
-                self.add(round);
-                Ok(true)
-            }
+            There::None => self.add_all(journal, key, round, input),
         }
+    }
+
+    // Adds a round, and with it those that have come behind it.
+    fn add_all<D: Disk, I: Read>(
+        &mut self,
+        journal: &mut Journal<D, ()>,
+        key: u64,
+        round: &[u8],
+        input: &mut BufReader<I>,
+    ) -> Result<Option<End>, Failure>
+        requires usable { IsTrue (D.Disk.is_usable (disk_behind journal.old)) }
+        ensures taken { result ≡ Ok None → (more : List (List ℕ)) × (bytes : List ℕ) × Came more bytes × Consumes (reader_remaining I.Read.remaining input.old) (reader_remaining I.Read.remaining input.new) bytes
+            × ((records : List (List ℕ)) (new : List (List (List ℕ))) → IsSettled D.Disk.seen D.Disk.may_leave D.Disk.is_clean journal.old records → HoldRecords (round.now ∷ more) new
+            → IsSettled D.Disk.seen D.Disk.may_leave D.Disk.is_clean journal.new (records ++ records_of_all new)) }
+        ensures clean { D.Disk.is_clean (disk_behind journal.new) ≡ D.Disk.is_clean (disk_behind journal.old) }
+        ensures usable { OnOk result (IsTrue (D.Disk.is_usable (disk_behind journal.new))) }
+    {
+        let alloc = self.rt.alloc();
+        let come = come_by_now(alloc, input, key, end_of(self.place, round))?;
+        append_read(alloc, journal, round, &come.rounds)?;
+        self.add(round);
+        self.add_each(&come.rounds);
+        if come.is_cut {
+            return Ok(Some(self.refused_cut()?));
+        }
+        Ok(None)
+    }
+
+    // Counts rounds that were appended.
+    fn add_each(&mut self, rounds: &[Vec<u8>]) {
+        for round in rounds {
+            self.add(round);
+        }
+    }
+
+    fn refused_cut(&self) -> Result<End, Failure> {
+        refused_at(self.rt, "the stream has no whole round", self.place)
     }
 
     // In front of what comes behind that which was taken of a file.
@@ -671,10 +537,7 @@ impl Taken<'_> {
 
     // Goes behind a round, and tells how far it is, now and then.
     fn go_behind(&mut self, round: &[u8]) {
-        self.place = self
-            .place
-            .saturating_add(round.len() as u64)
-            .saturating_add(8);
+        self.place = end_of(self.place, round);
         if !self.progress.is_due() {
             return;
         }

@@ -144,10 +144,10 @@ fn check<O: Write + Drop>(
 
 fn tell_whole<O: Write + Drop>(whole: &Whole, output: &mut BufWriter<O>) -> io::Result<()> {
     let (records, bytes) = (whole.records, whole.bytes);
-    let last = whole.opened.last.0;
+    let (last, began) = (whole.opened.last.0, whole.header.began);
     writeln!(
         output,
-        "whole: {records} records, {bytes} bytes, last moment {last}"
+        "whole: {records} records, {bytes} bytes, last moment {last}, began {began}"
     )
 }
 

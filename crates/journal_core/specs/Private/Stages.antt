@@ -8,9 +8,10 @@ use Rattle.std.specs.declared.io.Error.{Error}
 use Rattle.journal_core.specs.declared.clocked.Clocked.{Clocked}
 use Rattle.journal_core.specs.declared.round.Part.{Part}
 use Rattle.journal_core.specs.declared.round.Round.{Round}
+use Rattle.journal_core.specs.declared.batch.Batch.{Batch}
 use Rattle.journal_core.specs.declared.header.Header.{Header}
 use Rattle.journal_core.specs.Clocked.{disk_of, EachLeaves, GoesAs}
-use Rattle.journal_core.specs.Format.{Lies}
+use Rattle.journal_core.specs.Format.{Lies, open_word, round_text}
 
 abbrev pub bytes_of_part : Part → List ℕ
 bytes_of_part p = p.own.items ++ p.body
@@ -25,6 +26,12 @@ round_bytes r = parts_text r.parts.items ++ r.tail.items
 -- the tail may have grown, and nothing else changed
 abbrev pub JoinsTail : Round → Round → Type 0
 JoinsTail old new = (new.parts.items ≡ old.parts.items) × (take (length old.tail.items) new.tail.items ≡ old.tail.items)
+
+-- one round more stands behind those that were there: the first of all, or one whose gate is open
+abbrev pub JoinsRound : ℕ → List ℕ → Batch → Batch → Type 0
+JoinsRound place bytes old new =
+    ((old.text.items ≡ []) × (new.text.items ≡ round_text old.key place bytes))
+    ⊎ ((0 < length old.text.items) × (new.text.items ≡ old.text.items ++ (open_word ++ round_text old.key place bytes)))
 
 -- what a write of n bytes at `at` makes of one of these
 abbrev pub Wrote : ℕ → ℕ → (List ℕ → Type 0) → List ℕ → Type 0

@@ -1,5 +1,5 @@
 -- A piece more, of one byte at least.
-use Rattle.std.proofs.Common.{rules, tests, ◌≡◌, ◌⊎◌, ◌+◌, ◌<◌, ◌≤◌, ℕ, List, true, Result, Ok, Err, OnErr, OnOk, inl, inr, length, max, refl, sym, ◌∙◌, subst, arith}
+use Rattle.std.proofs.Common.{rules, tests, ◌≡◌, ◌⊎◌, ◌+◌, ◌<◌, ◌≤◌, ℕ, List, Result, Ok, Err, OnErr, OnOk, inl, inr, length, max, refl, sym, ◌∙◌, subst, arith}
 use Rattle.std.proofs.lemmas.Result.{on_ok_weaker}
 use Rattle.std.specs.declared.io.Error.{Error}
 use Rattle.sqlite_disk.specs.Disk.{CountsFault, MoreFaults}
@@ -42,7 +42,7 @@ writing-preserved g c =
     let next : c.in-Ok.next ≡ c.writing.at + c.min-count.result = search rules in
     let len : 0 < c.min-count.result → length (seen (disk_of c.write_piece.new.disk)) ≡ max (length (seen (disk_of c.writing.disk))) (c.writing.at + c.min-count.result) = search rules in
     let most : length (seen (disk_of c.write_piece.new.disk)) ≤ max (length (seen (disk_of c.writing.disk))) (c.writing.at + c.min-count.result) = search rules in
-    let count : 0 < c.min-count.result = omega (arith, c.min-count.ensures, c.writing-test.true) in
+    let count : 0 < c.min-count.result = omega (arith, c.min-count.ensures, c.zeros-zeros.ensures, c.writing-test.true) in
     let faults = g.D.Disk.faults in
     let tally = g.D.Disk.tally_of in
     let d0 = disk_of c.args.disk.now in
@@ -50,10 +50,10 @@ writing-preserved g c =
     let d2 = disk_of c.write_piece.new.disk in
     record {
       from = omega (arith, next, c.writing.invariant.from);
-      to = omega (arith, next, c.min-count.ensures, c.writing-test.true);
+      to = omega (arith, next, c.min-count.ensures, c.zeros-zeros.ensures, c.writing-test.true);
       len = λ some. len_more c.args.from c.writing.at c.min-count.result c.in-Ok.next (length (seen (disk_of c.args.disk.now))) (length (seen (disk_of c.writing.disk))) (length (seen (disk_of c.write_piece.new.disk))) c.writing.invariant.len c.writing.invariant.len_none c.writing.invariant.from next count (len count);
-      len_none = λ none. absurd (omega (arith, next, none, c.min-count.ensures, c.writing-test.true, c.writing.invariant.from));
-      most = omega (arith, most, c.writing.invariant.most, c.min-count.ensures, c.writing-test.true);
+      len_none = λ none. absurd (omega (arith, next, none, c.min-count.ensures, c.zeros-zeros.ensures, c.writing-test.true, c.writing.invariant.from));
+      most = omega (arith, most, c.writing.invariant.most, c.min-count.ensures, c.zeros-zeros.ensures, c.writing-test.true);
       seen = λ front low it. c.write_piece.ensures.seen front (omega (arith, low, c.writing.invariant.from)) (c.writing.invariant.seen front low it);
       behind = behind_on g.D.Disk.seen g.D.Disk.may_leave c.args.note.now c.args.from c.writing.at c.args.disk.now c.writing.disk c.write_piece.new.disk c.writing.invariant.from c.writing.invariant.behind c.write_piece.ensures.behind;
       counts = counted_two 0 (Ok 0) (faults d0) (faults d1) (faults d2) (tally d0) (tally d1) (tally d2) c.writing.invariant.counts
@@ -100,13 +100,13 @@ pub returns-then-is_no_room-clause-most : goal.returns-then-is_no_room-clause-mo
 returns-then-is_no_room-clause-most g c =
     let seen = g.D.Disk.seen in
     let most : length (seen (disk_of c.write_piece.new.disk)) ≤ max (length (seen (disk_of c.writing.disk))) (c.writing.at + c.min-count.result) = search rules in
-    subst (λ (l : List ℕ). length l ≤ max (length (seen (disk_of c.args.disk.now))) c.args.to) (sym c.sync.ensures.seen) (omega (arith, most, c.writing.invariant.most, c.min-count.ensures, c.writing-test.true))
+    subst (λ (l : List ℕ). length l ≤ max (length (seen (disk_of c.args.disk.now))) c.args.to) (sym c.sync.ensures.seen) (omega (arith, most, c.writing.invariant.most, c.min-count.ensures, c.zeros-zeros.ensures, c.writing-test.true))
 
 pub returns-in-Err-clause-most : goal.returns-in-Err-clause-most
 returns-in-Err-clause-most g c =
     let seen = g.D.Disk.seen in
     let most : length (seen (disk_of c.write_piece.new.disk)) ≤ max (length (seen (disk_of c.writing.disk))) (c.writing.at + c.min-count.result) = search rules in
-    omega (arith, most, c.writing.invariant.most, c.min-count.ensures, c.writing-test.true)
+    omega (arith, most, c.writing.invariant.most, c.min-count.ensures, c.zeros-zeros.ensures, c.writing-test.true)
 
 pub returns-clause-most : goal.returns-clause-most
 returns-clause-most g c = subst (λ (l : List ℕ). length l ≤ max (length (g.D.Disk.seen (disk_of c.args.disk.now))) c.args.to) (sym c.sync-2.ensures.seen) c.writing.invariant.most

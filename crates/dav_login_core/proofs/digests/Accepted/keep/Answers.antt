@@ -15,5 +15,5 @@ invariant_of-self-clause-are_accepted c =
 
 pub returns-clause-learns : goal.returns-clause-learns
 returns-clause-learns c =
-    learns_one (is_ok c.push_back-kept.result) c.args.self.now.known.items c.make_room.new.self.known.items _ c.args.accepted c.make_room.ensures.forgets
+    learns_one (is_ok c.push_back-kept.result) c.args.self.now.known.items c.make_room.new.self.known.items _ c.args.accepted c.make_room.ensures.known
     c.push_back-kept.ensures.items

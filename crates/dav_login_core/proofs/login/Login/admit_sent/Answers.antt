@@ -5,7 +5,7 @@ use Rattle.http_header.specs.FieldValue.{FieldValue, IsFieldValue}
 use Rattle.dav_users_core.specs.Basic.{name_and_password_of}
 use Rattle.dav_users_core.specs.Users.{users_in}
 use Rattle.dav_login_core.specs.Admissions.{IsFoundToBe}
-use Rattle.dav_login_core.specs.Digests.{WasRefused, digest}
+use Rattle.dav_login_core.specs.Digests.{WasRefused, digest, is_known}
 use Rattle.dav_login_core.specs.declared.login.Login.{Login}
 use Rattle.dav_login_core.specs.LoginViews.{login}
 use Rattle.dav_login_core.specs.Passing.{AsUser}
@@ -25,15 +25,17 @@ pub returns-in_ok-inner-in-Accepted-clause-some : goal.returns-in_ok-inner-in-Ac
 returns-in_ok-inner-in-Accepted-clause-some g c = λ admitted e.
     let door = (login c.args.self.now).door in
     let given = name_and_password_of c.args.given in
-    let_in (IsFoundToBe door c.args.request.now) _ admitted e (record {
+    let is_digest : c.digest-digest.result ≡ digest door.key given.name given.password =
+    digest_of_bytes door.key given.name c.as_str-2.result.now given.password c.as_str-3.result.now c.digest-digest.result c.digest-digest.ensures
+    c.as_str-2.ensures.value c.as_str-3.ensures.value in
+    let_in (IsFoundToBe door (login c.args.self.now).known c.args.request.now) _ admitted e (record {
       passed = inr (users_request door c.args.request.now c.in_ok-inner-in-Accepted.inner given c.requires.is_sent
           (inr (known_accepted door.users door.key (digest door.key given.name given.password) c.args.self.now.accepted.known.items
           c.args.self.now.accepted.are_accepted c.in-Accepted.ensures.weighs))
           (subst (λ (h : List ℕ). AsUser h given.name c.args.request.now c.in_ok-inner-in-Accepted.inner) (ap (λ (l : Login g.row.S.Denot g.row.H.Denot). l.header) c.weigh.ensures.same)
           (subst (λ (n : List ℕ). AsUser c.weigh.new.self.header n c.args.request.now c.in_ok-inner-in-Accepted.inner)
           (ap (λ (v : FieldValue). v.bytes) c.in-Ok.ensures.ok ∙ c.as_str.ensures.value) c.in_ok-inner-in-Accepted.ensures)));
-      right = tt;
-      sent = tt;
+      lesson = (given, c.requires.is_sent, is_digest, ap (is_known (login c.args.self.now).known) is_digest ∙ c.in-Accepted.ensures.weighs);
     })
 
 pub returns-in_ok-inner-in-Right-clause-some : goal.returns-in_ok-inner-in-Right-clause-some
@@ -43,13 +45,15 @@ returns-in_ok-inner-in-Right-clause-some g c = λ admitted e.
     let is_digest : c.digest-digest.result ≡ digest door.key given.name given.password =
     digest_of_bytes door.key given.name c.as_str-2.result.now given.password c.as_str-3.result.now c.digest-digest.result c.digest-digest.ensures
     c.as_str-2.ensures.value c.as_str-3.ensures.value in
-    let_in (IsFoundToBe door c.args.request.now) _ admitted e (record {
+    let_in (IsFoundToBe door (login c.args.self.now).known c.args.request.now) _ admitted e (record {
       passed = inr (users_request door c.args.request.now c.in_ok-inner-in-Right.inner given c.requires.is_sent (inl c.in-Right.ensures.weighs.1)
           (subst (λ (h : List ℕ). AsUser h given.name c.args.request.now c.in_ok-inner-in-Right.inner) (ap (λ (l : Login g.row.S.Denot g.row.H.Denot). l.header) c.weigh.ensures.same)
           (subst (λ (n : List ℕ). AsUser c.weigh.new.self.header n c.args.request.now c.in_ok-inner-in-Right.inner)
           (ap (λ (v : FieldValue). v.bytes) c.in-Ok.ensures.ok ∙ c.as_str.ensures.value) c.in_ok-inner-in-Right.ensures)));
-      right = digest_of_right door.users door.key given.name given.password c.digest-digest.result is_digest c.in-Right.ensures.weighs.1;
-      sent = (given, c.requires.is_sent, is_digest);
+      lesson = (
+        digest_of_right door.users door.key given.name given.password c.digest-digest.result is_digest c.in-Right.ensures.weighs.1,
+        (given, c.requires.is_sent, is_digest, ap (is_known (login c.args.self.now).known) is_digest ∙ c.in-Right.ensures.weighs.0.unknown),
+      );
     })
 
 pub note_refused-requires : goal.note_refused-requires
@@ -60,13 +64,13 @@ note_refused-requires g c =
     (digest_of_wrong door.users door.key given.name given.password c.digest-digest.result
     (digest_of_bytes door.key given.name c.as_str-2.result.now given.password c.as_str-3.result.now c.digest-digest.result c.digest-digest.ensures
     c.as_str-2.ensures.value c.as_str-3.ensures.value)
-    c.in-Wrong.ensures.weighs)
+    c.in-Wrong.ensures.weighs.1)
 
 pub returns-in_ok-refuse-in-Wrong-clause-none : goal.returns-in_ok-refuse-in-Wrong-clause-none
 returns-in_ok-refuse-in-Wrong-clause-none g c = λ _.
     let door = (login c.args.self.now).door in
     turned_away (login c.args.self.now) _ c.args.request.now c.refuse-in-Wrong.new.response
-    (given_in_vain door c.args.request.now (name_and_password_of c.args.given) c.requires.is_sent (inl (inl c.in-Wrong.ensures.weighs)))
+    (given_in_vain door c.args.request.now (name_and_password_of c.args.given) c.requires.is_sent (inl (inl c.in-Wrong.ensures.weighs.1)))
     (subst (λ (l : Login g.row.S.Denot g.row.H.Denot). IsResponse 401 ((codes "www-authenticate", l.challenge.bytes) ∷ []) [] c.refuse-in-Wrong.new.response)
     c.weigh.ensures.same c.in_ok-refuse-in-Wrong.ensures)
     (same_state (users_in c.weigh.new.self.accepted.users) (users_in c.note_refused.new.self.users) c.weigh.new.self.challenge.bytes c.weigh.new.self.header c.weigh.new.self.watch.field
@@ -78,7 +82,7 @@ pub returns-in_ok-refuse-in-Again-clause-none : goal.returns-in_ok-refuse-in-Aga
 returns-in_ok-refuse-in-Again-clause-none g c = λ _.
     turned_away (login c.args.self.now) (login c.weigh.new.self) c.args.request.now c.refuse-in-Again.new.response
     (given_in_vain (login c.args.self.now).door c.args.request.now (name_and_password_of c.args.given) c.requires.is_sent
-    (inl (inr c.in-Again.ensures.weighs)))
+    (inl (inr c.in-Again.ensures.weighs.1)))
     (subst (λ (l : Login g.row.S.Denot g.row.H.Denot). IsResponse 401 ((codes "www-authenticate", l.challenge.bytes) ∷ []) [] c.refuse-in-Again.new.response)
     c.weigh.ensures.same c.in_ok-refuse-in-Again.ensures)
     (ap (λ (l : Login g.row.S.Denot g.row.H.Denot). login l) c.weigh.ensures.same)
@@ -86,5 +90,5 @@ returns-in_ok-refuse-in-Again-clause-none g c = λ _.
 pub returns-in_ok-hold_back-in-TooMany-clause-none : goal.returns-in_ok-hold_back-in-TooMany-clause-none
 returns-in_ok-hold_back-in-TooMany-clause-none g c = λ _.
     held_back (login c.args.self.now) (login c.weigh.new.self) c.args.request.now c.hold_back.new.response (name_and_password_of c.args.given)
-    c.requires.is_sent c.in-TooMany.ensures.weighs c.in_ok-hold_back-in-TooMany.ensures
+    c.requires.is_sent c.in-TooMany.ensures.weighs.unknown c.in_ok-hold_back-in-TooMany.ensures
     (ap (λ (l : Login g.row.S.Denot g.row.H.Denot). login l) c.weigh.ensures.same)

@@ -17,6 +17,8 @@ use Rattle.journal_core.proofs.Exits.{closed_not_large, err_not_ok, if_err, larg
 use Rattle.journal_core.proofs.Settling.{left_at_rest}
 use Rattle.journal_core.proofs.Crash.{to_gate, at_behind, begun, all_begun, stands_still, gate_crash, gate_goes, gate_len, goes_behind, added}
 use Rattle.journal_core.proofs.Records.{none_left}
+use Rattle.journal_core.proofs.Rounds.{round_len}
+use Rattle.journal_core.proofs.Several.{one_behind}
 use Rattle.journal_core.proofs.journal.Journal.append.Goals as goal
 use Rattle.journal_core.proofs.journal.Journal.append.Goals.{in-Some, in-None}
 
@@ -86,7 +88,7 @@ returns-in_err-map_err-clause-crash g c = λ records new it carries f left.
     let staged = subst (λ (r : Result ℕ Error). OnOk r ((front : List ℕ) → length front ≡ j.at + 8 → BeginsWith front (seen (disk_of j.disk)) → BeginsWith (front ++ (round_text j.header.key j.at bytes ++ shut_word)) (seen (disk_of mid)))) written c.write_round.ensures.writes
     front front_len (begun seen may_leave is_clean j records it) in
     let durable = subst (λ (r : Result ℕ Error). OnOk r (Only (seen (disk_of mid)) (may_leave (disk_of mid)))) written c.write_round.ensures.durable in
-    gate_crash seen may_leave is_clean j records it new bytes carries some short (seen (disk_of mid)) (may_leave (disk_of mid)) staged durable f (c.put.ensures.crash f left)
+    gate_crash seen may_leave is_clean j records it new (round_text j.header.key j.at bytes) (one_behind j.header.key j.at bytes new carries some short) (seen (disk_of mid)) (may_leave (disk_of mid)) staged durable f (c.put.ensures.crash f left)
 
 pub returns-clause-crash : goal.returns-clause-crash
 returns-clause-crash g c = λ records new it carries f left.
@@ -106,7 +108,7 @@ returns-clause-crash g c = λ records new it carries f left.
     let staged = subst (λ (r : Result ℕ Error). OnOk r ((front : List ℕ) → length front ≡ j.at + 8 → BeginsWith front (seen (disk_of j.disk)) → BeginsWith (front ++ (round_text j.header.key j.at bytes ++ shut_word)) (seen (disk_of mid)))) written c.write_round.ensures.writes
     front front_len (begun seen may_leave is_clean j records it) in
     let durable = subst (λ (r : Result ℕ Error). OnOk r (Only (seen (disk_of mid)) (may_leave (disk_of mid)))) written c.write_round.ensures.durable in
-    gate_crash seen may_leave is_clean j records it new bytes carries some short (seen (disk_of mid)) (may_leave (disk_of mid)) staged durable f (c.put.ensures.crash f left)
+    gate_crash seen may_leave is_clean j records it new (round_text j.header.key j.at bytes) (one_behind j.header.key j.at bytes new carries some short) (seen (disk_of mid)) (may_leave (disk_of mid)) staged durable f (c.put.ensures.crash f left)
 
 pub returns-in_err-map_err-clause-any_moment : goal.returns-in_err-map_err-clause-any_moment
 returns-in_err-map_err-clause-any_moment g c = λ records new it carries.
@@ -128,7 +130,7 @@ returns-in_err-map_err-clause-any_moment g c = λ records new it carries.
     let durable = subst (λ (r : Result ℕ Error). OnOk r (Only (seen (disk_of mid)) (may_leave (disk_of mid)))) written c.write_round.ensures.durable in
     let P : List ℕ → Type 0 = λ f. StandsFor j.header f records ⊎ StandsFor j.header f (records ++ new) in
     let first = leaves_weaker may_leave note (BeginsWith front) P (λ f begins. inl (stands_still seen may_leave is_clean j records it f begins)) j.disk mid (c.write_round.ensures.behind.any_moment front (low_of (length front) j.at front_len) all) in
-    let second = leaves_weaker may_leave note (Wrote j.at 8 (may_leave (disk_of mid))) P (gate_crash seen may_leave is_clean j records it new bytes carries some short (seen (disk_of mid)) (may_leave (disk_of mid)) staged durable) mid c.put.new.disk c.put.ensures.any_moment in
+    let second = leaves_weaker may_leave note (Wrote j.at 8 (may_leave (disk_of mid))) P (gate_crash seen may_leave is_clean j records it new (round_text j.header.key j.at bytes) (one_behind j.header.key j.at bytes new carries some short) (seen (disk_of mid)) (may_leave (disk_of mid)) staged durable) mid c.put.new.disk c.put.ensures.any_moment in
     joined (CrashLeaves may_leave note P) j.disk mid c.put.new.disk first second
 
 pub returns-clause-any_moment : goal.returns-clause-any_moment
@@ -151,7 +153,7 @@ returns-clause-any_moment g c = λ records new it carries.
     let durable = subst (λ (r : Result ℕ Error). OnOk r (Only (seen (disk_of mid)) (may_leave (disk_of mid)))) written c.write_round.ensures.durable in
     let P : List ℕ → Type 0 = λ f. StandsFor j.header f records ⊎ StandsFor j.header f (records ++ new) in
     let first = leaves_weaker may_leave note (BeginsWith front) P (λ f begins. inl (stands_still seen may_leave is_clean j records it f begins)) j.disk mid (c.write_round.ensures.behind.any_moment front (low_of (length front) j.at front_len) all) in
-    let second = leaves_weaker may_leave note (Wrote j.at 8 (may_leave (disk_of mid))) P (gate_crash seen may_leave is_clean j records it new bytes carries some short (seen (disk_of mid)) (may_leave (disk_of mid)) staged durable) mid c.put.new.disk c.put.ensures.any_moment in
+    let second = leaves_weaker may_leave note (Wrote j.at 8 (may_leave (disk_of mid))) P (gate_crash seen may_leave is_clean j records it new (round_text j.header.key j.at bytes) (one_behind j.header.key j.at bytes new carries some short) (seen (disk_of mid)) (may_leave (disk_of mid)) staged durable) mid c.put.new.disk c.put.ensures.any_moment in
     joined (CrashLeaves may_leave note P) j.disk mid c.put.new.disk first second
 
 pub returns-in_err-map_err-clause-cause : goal.returns-in_err-map_err-clause-cause
@@ -190,7 +192,7 @@ returns-clause-acknowledged g c = λ records new it carries.
     let only = subst (λ (r : Result (Unit {0}) Error). OnOk r (Only (seen (disk_of c.put.new.disk)) (may_leave (disk_of c.put.new.disk)))) opened c.put.ensures.durable in
     let next : c.in_ok-end.end ≡ j.at + (24 + length bytes) = subst (λ (r : Result ℕ Error). IfOk r (λ next. next ≡ j.at + (24 + length bytes))) written c.write_round.ensures.next in
     let len = subst (λ (r : Result ℕ Error). OnOk r (length (seen (disk_of mid)) ≡ max (length (seen (disk_of j.disk))) (j.at + (32 + length bytes)))) written c.write_round.ensures.len in
-    let same_len = gate_len seen may_leave is_clean j records it new bytes carries some short (seen (disk_of mid)) (seen (disk_of c.put.new.disk)) staged c.put.ensures.others in
+    let same_len = gate_len seen may_leave is_clean j records it new (round_text j.header.key j.at bytes) (one_behind j.header.key j.at bytes new carries some short) (seen (disk_of mid)) (seen (disk_of c.put.new.disk)) staged c.put.ensures.others in
     let same_clean : is_clean (disk_of c.put.new.disk) ≡ is_clean (disk_of j.disk) = c.put.ensures.clean ∙ c.write_round.ensures.clean in
     let Knows : Option ℕ → Type 0 = λ o. IfSome o (λ n. IsTrue (is_clean (disk_of c.put.new.disk)) → n ≡ length (seen (disk_of c.put.new.disk))) in
     let knows : Knows c.match-self.self = elim c.match-self.branch [
@@ -199,7 +201,7 @@ returns-clause-acknowledged g c = λ records new it carries.
           omega (arith, w.max.ensures, old_len, len, same_len, next))
       | in-None w ↦ subst Knows (sym w.self-is) tt
     ] in
-    added seen may_leave is_clean j records it new bytes carries some short _ (seen (disk_of mid)) staged c.put.ensures.others holds only refl next knows
+    added seen may_leave is_clean j records it new (round_text j.header.key j.at bytes) (one_behind j.header.key j.at bytes new carries some short) _ (seen (disk_of mid)) staged c.put.ensures.others holds only refl (omega (arith, next, round_len j.header.key j.at bytes)) knows
 
 pub returns-clause-steps : goal.returns-clause-steps
 returns-clause-steps g c = λ records new it carries.
@@ -218,7 +220,7 @@ returns-clause-steps g c = λ records new it carries.
     let holds = subst (λ (r : Result (Unit {0}) Error). OnOk r (Holds (seen (disk_of c.put.new.disk)) j.at open_word)) opened c.put.ensures.holds in
     let once = subst (λ (r : Result (Unit {0}) Error). OnOk r (GoesAs (ChangesOnce (seen (disk_of mid)) (seen (disk_of c.put.new.disk))) seen mid c.put.new.disk)) opened c.put.ensures.moments in
     goes_two (MayStep j.header) seen j.disk mid c.put.new.disk (goes_behind seen may_leave is_clean j records it j.disk mid refl c.write_round.ensures.behind.moments)
-    (gate_goes seen may_leave is_clean j records it new bytes carries some short mid c.put.new.disk staged c.put.ensures.others holds once)
+    (gate_goes seen may_leave is_clean j records it new (round_text j.header.key j.at bytes) (one_behind j.header.key j.at bytes new carries some short) mid c.put.new.disk staged c.put.ensures.others holds once)
 
 pub returns-then-not-self-clause-any_moment : goal.returns-then-not-self-clause-any_moment
 returns-then-not-self-clause-any_moment g c = λ records new it carries. none (CrashLeaves g.D.Disk.may_leave c.args.note.now (λ f. StandsFor c.args.self.now.header f records ⊎ StandsFor c.args.self.now.header f (records ++ new))) c.args.self.now.disk
@@ -467,7 +469,7 @@ returns-clause-room g c = λ records new it carries within.
     let staged = subst (λ (r : Result ℕ Error). OnOk r ((front : List ℕ) → length front ≡ j.at + 8 → BeginsWith front (seen (disk_of j.disk)) → BeginsWith (front ++ (round_text j.header.key j.at bytes ++ shut_word)) (seen (disk_of mid)))) written c.write_round.ensures.writes
     front front_len (begun seen may_leave is_clean j records it) in
     let len = subst (λ (r : Result ℕ Error). OnOk r (length (seen (disk_of mid)) ≡ max (length (seen (disk_of j.disk))) (j.at + (32 + length bytes)))) written c.write_round.ensures.len in
-    let same_len = gate_len seen may_leave is_clean j records it new bytes carries some short (seen (disk_of mid)) (seen (disk_of c.put.new.disk)) staged c.put.ensures.others in
+    let same_len = gate_len seen may_leave is_clean j records it new (round_text j.header.key j.at bytes) (one_behind j.header.key j.at bytes new carries some short) (seen (disk_of mid)) (seen (disk_of c.put.new.disk)) staged c.put.ensures.others in
     same_len ∙ omega (arith, len, within, ap length carries)
 
 pub returns-clause-usable : goal.returns-clause-usable

@@ -107,7 +107,7 @@ impl Clients {
         let is_proxy = self.proxies.has(address);
         let place = address.map(Place::of).filter(|_| !is_proxy);
         if self.places.is_full(place) {
-            return self.refusals.note(address, CROWDED, self.now);
+            return self.refusals.turn_away(address, CROWDED, self.now);
         }
         let key = self.next_key;
         if address.is_some() {
@@ -141,7 +141,7 @@ impl Clients {
                     self.places.enter(place);
                     return true;
                 }
-                self.refusals.note(address, CROWDED, self.now);
+                self.refusals.turn_away(address, CROWDED, self.now);
             }
             // A proxy that only looks whether someone is there.
             Err(_) if client.has_no_header() => {}
@@ -153,9 +153,11 @@ impl Clients {
 
     /// Closes one to let another in. Whether there was one.
     pub fn evict(&mut self) -> bool {
-        let resting = self.longest_at_rest();
-        let found = resting.or_else(|| self.longest_lagging());
-        found.map(|key| self.lose(key)).is_some()
+        if let Some(key) = self.longest_at_rest() {
+            self.lose(key);
+            return true;
+        }
+        self.longest_lagging().map(|key| self.lose_late(key)).is_some()
     }
 
     /// Who has rested longest, and long enough; first those that are over, then those that never sent anything.
@@ -197,6 +199,16 @@ impl Clients {
             }
             self.close(key);
         }
+    }
+
+    /// It is sent away since it was too slow, which the log of the program has, too.
+    fn lose_late(&mut self, key: u64) {
+        if let Some(client) = self.by_key.get(&key) {
+            if let (Some(number), false) = (client.number(), client.is_over()) {
+                self.to.say(&frames::late(number));
+            }
+        }
+        self.lose(key);
     }
 
     /// Nothing more is heard of it: it is closed once what it asked for is answered.
@@ -452,6 +464,9 @@ impl Clients {
     /// Sends away who is late; and those that rest, once the listener is to stop.
     pub fn look_at_times(&mut self) {
         self.refusals.tell(self.now);
+        for (address, count) in self.refusals.take_due() {
+            self.to.say(&frames::turned(address, count));
+        }
         let late = |client: &Client| {
             let ends = self.is_stopping && client.is_at_rest();
             client.late(&self.limits, self.now).or_else(|| Some(Late::Sends).filter(|_| ends))
@@ -460,7 +475,7 @@ impl Clients {
         for (key, late) in found {
             match late {
                 Late::Sends => self.end(key),
-                Late::Takes => self.lose(key),
+                Late::Takes => self.lose_late(key),
             }
         }
         for client in self.by_key.values_mut() {

@@ -5,7 +5,7 @@ behind.py serve|echo SEED [DEAF [WORD..]]     DEAF: once it is ready it reads no
 It first tells that it is ready, with `--login` once it knows the users. Where READY_WHEN is set, it waits for a file with this path before. Where NOTES is set, it appends its words to this file as it begins, and the moment; and the moment at which it ends by `end` or `die`.
 
 With `serve` it answers lines: `get N` by N bytes, `last N` by N bytes behind which the connection is over, `wait N` by `ok` after so many milliseconds, `work N` by the same while it does nothing else, `put N` and N bytes behind it by `ok` and N, `who` by the address that was told of its client, `know` by `ok`, behind which the listener is told that a user was let in, `hang` by `ok`, behind which no touch has an answer, `users` by the names of the users, `free` by each number of free bytes that was told, and any other by
-`refused`, behind which the connection is over. At `end N` it ends with this status, at `die` by SIGKILL. With `echo` it sends back what comes. What it tells is cut at random, and so it asks for more. Ends with 0, and says how many connections are left that are neither over nor gone; or with 4 and a reason where a frame is wrong.
+`refused`, behind which the connection is over. At `end N` it ends with this status, at `die` by SIGKILL. With `echo` it sends back what comes. What it tells is cut at random, and so it asks for more. Ends with 0, and says how many connections are left that are neither over nor gone; or with 4 and a reason where a frame is wrong. It says which clients were late, and how many connections had no place.
 
 With `--store` it takes word of what is free on the disk once it is ready, and else it wants none. With `--lease` it first tells that it has the lock, and a lease before it of LOCKED seconds, 1 where that isn't set; it waits for `go`, and for a touch, and each touch has its answer. With `--login` it wants the users first of all, and else it wants none. A line of theirs without a colon is wrong: its number is told, and where these are the first users it ends with 7; else those before stay.
 """
@@ -135,6 +135,12 @@ class Program:
             self.check(numbers[0] in self.connections and not self.connections[numbers[0]].is_gone, f"{words}")
             self.connections[numbers[0]].is_gone = True
             self.connections[numbers[0]].text.clear()
+        elif words[0] == b"late" and len(words) == 2 and len(numbers) == 1:
+            self.check(numbers[0] in self.connections and not self.connections[numbers[0]].is_gone, f"{words}")
+            print("late", numbers[0], file=sys.stderr, flush=True)
+        elif words[0] == b"turned" and len(words) == 3 and words[2].isdigit():
+            self.check(1 <= len(words[1]) <= 64 and all(33 <= byte <= 126 for byte in words[1]) and int(words[2]) > 0, f"{words}")
+            print("turned", words[1].decode(), int(words[2]), file=sys.stderr, flush=True)
         elif len(words) == len(numbers) == 2:
             self.take_piece(numbers[0], piece)
         else:

@@ -40,7 +40,7 @@ def pieces(out):
     out = out[len(READY) :]
     while out:
         head, found, out = out.partition(b"\n")
-        if head == b"more" or head.split()[0] in (b"grant", b"rests", b"owes"):
+        if head == b"more" or head.split()[0] in (b"grant", b"rests", b"owes", b"known"):
             continue
         number, length = map(int, head.split())
         if not found or len(out) < length:
@@ -97,8 +97,8 @@ class Listener:
         self.to, self.of = self.child.stdin.fileno(), self.child.stdout.fileno()
         os.set_blocking(self.to, False)
         self.clients, self.slow, self.told, self.wrong = {}, set(), collections.defaultdict(list), []
-        # Those of whom it isn't known that all that they sent is answered.
-        self.busy = set()
+        # Those of whom it isn't known that all that they sent is answered; and on which a user was let in.
+        self.busy, self.known = set(), []
         self.out, self.line, self.number, self.left, self.is_ready = bytearray(), b"", 0, 0, False
         # Whether more may be said, and whether the program has ended; its status then, and its processor seconds.
         self.is_open, self.has_ended, self.status, self.seconds = True, False, None, 0
@@ -235,6 +235,8 @@ class Listener:
                 self.number, self.left = map(int, words)
                 if not self.left:
                     self.read_piece(self.number, b"")
+            elif len(words) == 2 and words[0] == b"known" and words[1].isdigit():
+                self.known.append(int(words[1]))
             elif len(words) == 3 and words[0] in (b"grant", b"rests", b"owes") and all(map(bytes.isdigit, words[1:])):
                 self.read_line(words[0], *map(int, words[1:]))
             else:

@@ -65,9 +65,11 @@ def host_parted(servers):
 
 def host_parted_unasked(servers):
     """Nobody asks its server before its mount is connected to all bricks again, so that it notices nothing: each haproxy asks all servers twice a second."""
-    servers.hosts.part(1)
     for host in HOSTS:
         servers.hosts.kill(host, "haproxy", number=signal.SIGSTOP)
+    # What was asked before is answered. A server that is asked while it is cut off finds that its disk fails, and ends.
+    time.sleep(1)
+    servers.hosts.part(1)
 
     def mend():
         servers.hosts.part(1, "del")
@@ -184,5 +186,6 @@ CASES = {
     # A server that is ended in order has --grace seconds more.
     "each host in turn": Case(hosts_in_turn, 0, GRACE + DIES),
     "strict-locks off, each brick in turn": Case(bricks_in_turn, 0, None),
-    "strict-locks off, no lease, idle and cut off": Case(host_parted_unasked, 18, None, "both", has_lease=False),
+    # The first of its seconds goes by before the host is cut off.
+    "strict-locks off, no lease, idle and cut off": Case(host_parted_unasked, 19, None, "both", has_lease=False),
 }

@@ -59,6 +59,7 @@ def proxies(listen, files):
             client.send(b"who\n")
             yield "a header before TLS", client.receive(11) == b"192.0.2.55\n"
         yield "proxies: a clean end, and nothing is left of them", it.end() == 0 and "left 0\n" in it.told()
+    yield from turned_away(listen)
     yield from words_of_proxies(listen)
 
 
@@ -99,6 +100,16 @@ def crowds(behind):
     yield "of twenty from twenty none is", all(receive(client, 5) == b"192.0" for client in many)
     for client in crowd + many:
         client.close()
+
+
+def turned_away(listen):
+    """Those for whom there is no place are counted by their addresses, and the program is told."""
+    with listening(listen, ["--connections-per-address", "2"]) as it:
+        held = [it.connect() for _ in range(3)]
+        yield "of three from one address one is turned away, which the program is told", until(lambda: "turned 127.0.0.1 1\n" in it.told()) and sum(map(is_closed, held)) == 1
+        for client in held:
+            client.close()
+        yield "turned away: a clean end", it.end() == 0
 
 
 def words_of_proxies(listen):

@@ -1,6 +1,7 @@
 //! The laws of a server behind a login, and of one that is read-only.
 ghost use Rattle.std.specs.Prelude.{List};
 ghost use Rattle.http_frames.specs.ConnectionEvents.{Event};
+ghost use Rattle.turn_fronts.specs.declared.named.Named.{Named};
 ghost use Rattle.turn_fronts.specs.declared.read_only.ReadOnly.{ReadOnly};
 ghost use Rattle.dav_login_core.specs.declared.login.Login.{Login};
 ghost use Rattle.dav_login_core.specs.LoginViews.{login};
@@ -16,6 +17,7 @@ ghost use Rattle.dav_front_core.specs.FrontRuns.{KeptLoginRun, KeptReadOnlyRun, 
 ghost use Rattle.dav_front_core.specs.FrontRuns.{StaysAsItWas, TimedLoginRun, TimedReadOnlyRun};
 
 use dav_handler_core::serving::Clock;
+use dav_login_core::Host;
 use rand_core::Rng;
 
 /// The law of a server behind a login (RFC 7617, RFC 4918 sections 6 and 7): whatever events lead the
@@ -23,32 +25,32 @@ use rand_core::Rng;
 /// user's, by the users in force at each, or an OPTIONS that names nobody; each is answered as
 /// `served_frames_keep_promises` says, under the principal that the login names; every other is
 /// answered 401 or 429, and the server stays as it is. It does nothing.
-pub fn logins_keep_promises<R: Rng, C: Clock, H>()
+pub fn logins_keep_promises<R: Rng, C: Clock, H: Host>()
     // Of a server in memory.
-    ensures in_memory { (begun : Server) (old new : Login (Timed R C) H) (events : List Event)
-        → IsNew begun → Becomes begun (timing R.stream old.service).server
-        → TimedLoginRun R.stream C.tells old events new
-        → PromisesBehind C.tells begun (login old).door events (login new).door
-        (timing R.stream old.service) (timing R.stream new.service) }
+    ensures in_memory { (begun : Server) (old new : Login (Named (Timed R C)) H) (events : List Event)
+        → IsNew begun → Becomes begun (timing R.stream old.service.service).server
+        → TimedLoginRun R.stream C.tells H.told old events new
+        → PromisesBehind C.tells H.told begun (login old).door (login old).host events (login new).door (login new).host
+        (timing R.stream old.service.service) (timing R.stream new.service.service) }
     // Of one whose changes a journal keeps, as its clients see it.
-    ensures kept { (begun : Server) (old new : Login (Recorded R C) H) (events : List Event)
-        → IsNew begun → Becomes begun (as_served (kept_server R.stream old.service)).server
-        → KeptLoginRun R.stream C.tells old events new
-        → PromisesBehind C.tells begun (login old).door events (login new).door
-        (as_served (kept_server R.stream old.service))
-        (as_served (kept_server R.stream new.service)) }
+    ensures kept { (begun : Server) (old new : Login (Named (Recorded R C)) H) (events : List Event)
+        → IsNew begun → Becomes begun (as_served (kept_server R.stream old.service.service)).server
+        → KeptLoginRun R.stream C.tells H.told old events new
+        → PromisesBehind C.tells H.told begun (login old).door (login old).host events (login new).door (login new).host
+        (as_served (kept_server R.stream old.service.service))
+        (as_served (kept_server R.stream new.service.service)) }
 {}
 
 /// The law of a read-only server (own): whatever events lead it, its files, folders and properties
 /// stay as they were, and its locks, but for those that have expired. It does nothing.
 pub fn read_only_changes_nothing<R: Rng, C: Clock>()
     // Of a server in memory.
-    ensures in_memory { (old new : ReadOnly (Timed R C)) (events : List Event)
+    ensures in_memory { (old new : Named (ReadOnly (Timed R C))) (events : List Event)
         → TimedReadOnlyRun R.stream C.tells old events new
-        → StaysAsItWas (timing R.stream old.service).server (timing R.stream new.service).server }
+        → StaysAsItWas (timing R.stream old.service.service).server (timing R.stream new.service.service).server }
     // Of one whose changes a journal keeps, as its clients see it.
-    ensures kept { (old new : ReadOnly (Recorded R C)) (events : List Event)
+    ensures kept { (old new : Named (ReadOnly (Recorded R C))) (events : List Event)
         → KeptReadOnlyRun R.stream C.tells old events new
-        → StaysAsItWas (as_served (kept_server R.stream old.service)).server
-        (as_served (kept_server R.stream new.service)).server }
+        → StaysAsItWas (as_served (kept_server R.stream old.service.service)).server
+        (as_served (kept_server R.stream new.service.service)).server }
 {}

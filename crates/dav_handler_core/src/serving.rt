@@ -24,8 +24,9 @@ use bytes::Bytes;
 use dav_guarded_core::fs::Moment;
 use http::Request;
 use http_frames::clients::Clients;
+use http_frames::closing::LONG;
 use http_frames::frames::Frames;
-use http_frames::gate::{OneCall, TurnService};
+use http_frames::gate::{AccessLog, OneCall, TurnService};
 use http_frames::serving::{End, serve as serve_turns};
 use http_header::{HeaderName, HeaderValue};
 use http_server::{Connection, Response, Service, serve};
@@ -47,10 +48,6 @@ pub trait Clock {
 // The bytes of a file go out as they stand in the stores, where they are so many at least; fewer
 // are copied.
 const SHARED: u64 = 96 * 1024;
-
-// A connection keeps the room of its longest body while it lasts. Where one of more bytes was
-// refused, it ends.
-const LONG_BODY: usize = 512 * 1024;
 
 /// A server with the clock that tells it the moment of each turn.
 #[derive(Drop)]
@@ -90,7 +87,7 @@ fn close_behind_refused(request: &Request<Bytes>, response: &mut Response)
 fn is_long_refusal(request: &Request<Bytes>, response: &Response) -> bool
     ensures { IsTrue result → IsLongRefusal request.now response.now }
 {
-    request.body().len() > LONG_BODY && !response.status.is_success()
+    request.body().len() > LONG && !response.status.is_success()
 }
 
 /// The clock is asked once before each turn. The moment that it or a frame told last is the server's
@@ -104,10 +101,17 @@ impl<R: Rng, C: Clock> TurnService for Timed<R, C> {
 
     ghost room = { λ _. 0 };
 
+    ghost user = { λ _. [] };
+
     fn begin_turn(&mut self, _number: u64, _address: &[u8], _bytes: u64) {
         if let Some(now) = self.clock.moment() {
             self.dav.set_clock(now);
         }
+    }
+
+    /// A server knows nobody who was let in.
+    fn user(&self) -> &[u8] {
+        &[]
     }
 
     /// A long answer whose ranges are served is a file's, and shares its bytes with the stores.
@@ -146,9 +150,9 @@ fn serves_ranges(response: &Response) -> bool {
 /// Serves the connections that the frames of the input are of, and writes their answers as frames,
 /// as `serve` of `http_frames` does. `Io` where a stream fails, `OutOfMemory` where there is no
 /// memory outside a connection.
-pub fn serve_frames<R: Rng, C: Clock, I: Read, O: Write>(
+pub fn serve_frames<R: Rng, C: Clock, L: AccessLog, I: Read, O: Write>(
     clients: &mut Clients,
-    server: &mut OneCall<Timed<R, C>>,
+    server: &mut OneCall<Timed<R, C>, L>,
     frames: &mut Frames<I>,
     output: &mut O,
 ) -> Result<End, Fault>

@@ -1,5 +1,5 @@
 //! A server that has the record of what its last call changed at hand.
-ghost use Rattle.std.specs.Prelude.{◌≡◌, ◌≤◌, ℕ, List};
+ghost use Rattle.std.specs.Prelude.{◌≡◌, ◌≤◌, ℕ, List, []};
 ghost use Rattle.dav_store_core.specs.StandingFor.{StandFor};
 ghost use Rattle.dav_handler_core.specs.ServerViews.{server};
 ghost use Rattle.dav_kept_core.specs.Private.StandLaws.{clocked_stands, listed_stands, turn_told};
@@ -94,11 +94,18 @@ impl<R: Rng, C: Clock> TurnService for Recorded<R, C> {
 
     ghost room = { λ s. record_room (kept_server R.stream s) };
 
+    ghost user = { λ _. [] };
+
     fn begin_turn(&mut self, number: u64, address: &[u8], bytes: u64) {
         self.last = LastNotes::none(self.alloc);
         self.turn = !self.turn;
         self.timed.dav.set_room(bytes.saturating_sub(BESIDE));
         self.timed.begin_turn(number, address, bytes);
+    }
+
+    /// A server knows nobody who was let in.
+    fn user(&self) -> &[u8] {
+        &[]
     }
 
     fn own_len(&self, request: &Request<Bytes>, response: &Response) -> u64 {

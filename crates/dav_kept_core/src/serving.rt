@@ -10,7 +10,7 @@ use crate::recorded::Recorded;
 use dav_handler_core::serving::Clock;
 use http_frames::clients::Clients;
 use http_frames::frames::Frames;
-use http_frames::gate::OneCall;
+use http_frames::gate::{AccessLog, OneCall};
 use http_frames::serving::End;
 use journal_core::Journal;
 use kept_frames::{KeptError, serve_kept, serve_late};
@@ -25,10 +25,10 @@ use std::io::{Read, Write};
 ///
 /// - `Stream`: the input or the output failed, or there is no memory outside a connection.
 /// - `Journal`: what was changed could not be kept, and nothing that tells of it was handed out.
-pub fn serve_store<R: Rng, C: Clock, D: Disk, I: Read, O: Write>(
+pub fn serve_store<R: Rng, C: Clock, L: AccessLog, D: Disk, I: Read, O: Write>(
     alloc: Global,
     clients: &mut Clients,
-    server: &mut OneCall<Recorded<R, C>>,
+    server: &mut OneCall<Recorded<R, C>, L>,
     frames: &mut Frames<I>,
     journal: &mut Journal<D, O>,
     output: &mut O,
@@ -54,10 +54,10 @@ pub fn serve_store<R: Rng, C: Clock, D: Disk, I: Read, O: Write>(
 /// - `Stream`: the input or the output failed, or there is no memory outside a connection. What was
 ///   changed since the last such frame is lost.
 /// - `Journal`: what was changed could not be kept.
-pub fn serve_store_late<R: Rng, C: Clock, D: Disk, I: Read, O: Write>(
+pub fn serve_store_late<R: Rng, C: Clock, L: AccessLog, D: Disk, I: Read, O: Write>(
     alloc: Global,
     clients: &mut Clients,
-    server: &mut OneCall<Recorded<R, C>>,
+    server: &mut OneCall<Recorded<R, C>, L>,
     frames: &mut Frames<I>,
     journal: &mut Journal<D, O>,
     output: &mut O,

@@ -6,6 +6,7 @@ use Rattle.http_header.specs.FieldValue.{FieldValue, IsFieldValue}
 use Rattle.http.specs.declared.request.Parts.{Parts}
 use Rattle.http.specs.declared.request.Request.{Request}
 use Rattle.http.specs.Request.{head_of}
+use Rattle.http_frames.specs.Closing.{close_field}
 use Rattle.http_server.specs.declared.response.Response.{Response}
 use Rattle.http_server.specs.Response.{IsResponse}
 use Rattle.dav_users_core.specs.Basic.{NameAndPassword}
@@ -42,14 +43,14 @@ not_known door known request given is_sent unknown = λ other is_other.
     let same : given ≡ other = same_Some given other (sym is_sent ∙ is_other) in
     subst (λ (g : NameAndPassword). is_known known (digest door.key g.name g.password) ≡ false) same unknown
 
-module _ {S : Type 0} (old new : LoginState S) (request : Request (List ℕ)) (response : Response) where
-  pub turned_away : HasToLogIn old.door request → IsResponse 401 ((codes "www-authenticate", old.door.challenge) ∷ []) [] response → new ≡ old
+module _ {S H : Type 0} (old new : LoginState S H) (request : Request (List ℕ)) (response : Response) where
+  pub turned_away : HasToLogIn old.door request → IsResponse 401 ((codes "www-authenticate", old.door.challenge) ∷ close_field request) [] response → new ≡ old
       → TurnsAway old request response new
   turned_away reason answer stays = record { refused = inl (record { reason = reason; answer = answer }); stays = stays }
 
   pub held_back : (given : NameAndPassword) → name_and_password_sent (head_of request).headers ≡ Some given
       → is_known old.known (digest old.door.key given.name given.password) ≡ false
-      → IsResponse 429 ((codes "retry-after", codes "1") ∷ []) [] response → new ≡ old → TurnsAway old request response new
+      → IsResponse 429 ((codes "retry-after", codes "1") ∷ close_field request) [] response → new ≡ old → TurnsAway old request response new
   held_back given is_sent unknown answer stays = record {
     refused = inr (record { given = given; is_sent = is_sent; answer = answer }, not_known old.door old.known request given is_sent unknown);
     stays = stays;
@@ -71,16 +72,16 @@ pub let_in : (P : Admitted → Type 0) (x y : Admitted) → (let r : Result (Opt
 let_in P x y e h = let same : x ≡ y = cc in subst P same h
 
 -- the states are the same, where users, keys and what is known are
-pub same_state : {S : Type 0} (users users' : List UserLine) (challenge header : List ℕ) (address_field : Option (List ℕ)) (key key' : List ℕ) (known known' : List Known) (service : S)
+pub same_state : {S H : Type 0} (users users' : List UserLine) (challenge header : List ℕ) (address_field : Option (List ℕ)) (key key' : List ℕ) (known known' : List Known) (service : S) (host : H)
     → users' ≡ users → key' ≡ key → known' ≡ known
-    → record { door = record { users = users'; challenge = challenge; header = header; address_field = address_field; key = key' }; known = known'; service = service }
-    ≡ (let s : LoginState S = record { door = record { users = users; challenge = challenge; header = header; address_field = address_field; key = key }; known = known; service = service } in s)
-same_state {S} users users' challenge header address_field key key' known known' service is_same are_same knows =
-    ap (λ (u : List UserLine). (let s : LoginState S = record { door = record { users = u; challenge = challenge; header = header; address_field = address_field; key = key' }; known = known'; service = service } in s)) is_same
-    ∙ ap (λ (k : List ℕ). (let s : LoginState S = record { door = record { users = users; challenge = challenge; header = header; address_field = address_field; key = k }; known = known'; service = service } in s)) are_same
-    ∙ ap (λ (k : List Known). (let s : LoginState S = record { door = record { users = users; challenge = challenge; header = header; address_field = address_field; key = key }; known = k; service = service } in s)) knows
+    → record { door = record { users = users'; challenge = challenge; header = header; address_field = address_field; key = key' }; known = known'; service = service; host = host }
+    ≡ (let s : LoginState S H = record { door = record { users = users; challenge = challenge; header = header; address_field = address_field; key = key }; known = known; service = service; host = host } in s)
+same_state {S} {H} users users' challenge header address_field key key' known known' service host is_same are_same knows =
+    ap (λ (u : List UserLine). (let s : LoginState S H = record { door = record { users = u; challenge = challenge; header = header; address_field = address_field; key = key' }; known = known'; service = service; host = host } in s)) is_same
+    ∙ ap (λ (k : List ℕ). (let s : LoginState S H = record { door = record { users = users; challenge = challenge; header = header; address_field = address_field; key = k }; known = known'; service = service; host = host } in s)) are_same
+    ∙ ap (λ (k : List Known). (let s : LoginState S H = record { door = record { users = users; challenge = challenge; header = header; address_field = address_field; key = key }; known = k; service = service; host = host } in s)) knows
 
-module _ {S : Type 0} (answers : S → Request (List ℕ) → Response → S → Type 0) (old mid new : LoginState S) (request : Request (List ℕ)) (response : Response) where
+module _ {S H : Type 0} (answers : S → Request (List ℕ) → Response → S → Type 0) (old mid new : LoginState S H) (request : Request (List ℕ)) (response : Response) where
   -- what was sent is remembered by the lesson
   remembers : (known : List Known) → known ≡ old.known → (lesson : Lesson) → IsLessonOf old.door old.known request lesson → LearnsBy lesson known new.known
       → KeepsInMind old.door request old.known new.known
@@ -97,15 +98,16 @@ module _ {S : Type 0} (answers : S → Request (List ℕ) → Response → S →
 
   -- the service answered what was let in, and this was learned
   pub served : (admitted : Admitted) (service : S) → IsFoundToBe old.door old.known request admitted → mid ≡ old → answers mid.service admitted.inner response service
-      → new.service ≡ service → new.door ≡ mid.door
+      → new.service ≡ service → new.door ≡ mid.door → new.host ≡ mid.host
       → LearnsBy admitted.lesson mid.known new.known → LoggedIn answers old request response new
-  served admitted service is same answered serves door knows = record {
+  served admitted service is same answered serves door host knows = record {
     answer = inr (record {
       inner = admitted.inner;
       passed = is.passed;
       answered = subst (λ (s : S). answers old.service admitted.inner response s) (sym serves)
-          (subst (λ (l : LoginState S). answers l.service admitted.inner response service) same answered);
-      known = remembers mid.known (ap (λ (l : LoginState S). l.known) same) admitted.lesson is.lesson knows;
+          (subst (λ (l : LoginState S H). answers l.service admitted.inner response service) same answered);
+      known = remembers mid.known (ap (λ (l : LoginState S H). l.known) same) admitted.lesson is.lesson knows;
     });
-    door = door ∙ ap (λ (l : LoginState S). l.door) same;
+    door = door ∙ ap (λ (l : LoginState S H). l.door) same;
+    host = host ∙ ap (λ (l : LoginState S H). l.host) same;
   }

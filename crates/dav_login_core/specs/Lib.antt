@@ -14,3 +14,4 @@ pub mod Passing
 pub mod Private
 pub mod RunsBehind
 pub mod Sending
+pub mod Watching

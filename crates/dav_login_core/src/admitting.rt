@@ -1,6 +1,7 @@
 //! Which requests are let in.
 ghost use Rattle.std.specs.Prelude.{◌≡◌, ◌∷◌, [], ℕ, Some, None, Ok, OnOk, OnErr, codes, IfSome, string_bytes};
 ghost use Rattle.http.specs.Request.{head_of};
+ghost use Rattle.http_frames.specs.Closing.{close_field};
 ghost use Rattle.http_server.specs.Response.{IsBlank, IsResponse};
 ghost use Rattle.dav_users_core.specs.Basic.{name_and_password_of};
 ghost use Rattle.dav_login_core.specs.Admissions.{IsFoundToBe, WeighsUp};
@@ -23,6 +24,7 @@ use crate::weighing::Standing;
 use bytes::Bytes;
 use dav_users_core::Credentials;
 use http::{Request, StatusCode};
+use http_frames::closing::close_behind_long;
 use http_header::{HeaderName, HeaderValue, HeaderValueError};
 use http_server::Response;
 use std::alloc::AllocError;
@@ -67,7 +69,7 @@ impl<S, H: Host> Login<S, H> {
         ensures none { result ≡ Ok None → TurnsAway (login self.now) request.now response.new (login self.now) }
     {
         if !asks_options(request) {
-            self.refuse(response)?;
+            self.refuse(request, response)?;
             return Ok(None);
         }
         let inner = as_nobody(request, &self.header)?;
@@ -96,7 +98,7 @@ impl<S, H: Host> Login<S, H> {
             Ok(value) => value,
             Err(HeaderValueError::OutOfMemory) => return Err(AllocError),
             Err(HeaderValueError::Invalid) => {
-                self.refuse(response)?;
+                self.refuse(request, response)?;
                 return Ok(None);
             }
         };
@@ -123,16 +125,16 @@ impl<S, H: Host> Login<S, H> {
                 }))
             }
             Standing::Wrong => {
-                self.refuse(response)?;
+                self.refuse(request, response)?;
                 self.accepted.note_refused(label, digest);
                 Ok(None)
             }
             Standing::Again => {
-                self.refuse(response)?;
+                self.refuse(request, response)?;
                 Ok(None)
             }
             Standing::TooMany => {
-                hold_back(response)?;
+                hold_back(request, response)?;
                 Ok(None)
             }
         }
@@ -178,7 +180,7 @@ impl<S, H: Host> Login<S, H> {
 
     // The label by which the guesses of the request's client count.
     fn label_of(&self, request: &Request<Bytes>) -> u64
-        ensures { result ≡ label_of_client self.now.accepted.key self.now.watch request.now }
+        ensures { result ≡ label_of_client self.now.accepted.key self.now.watch.addresses request.now }
     {
         label_of(
             &self.accepted.key,
@@ -186,25 +188,27 @@ impl<S, H: Host> Login<S, H> {
         )
     }
 
-    // Asks for a name and a password (RFC 9110 section 15.5.2).
-    fn refuse(&self, response: &mut Response) -> Result<(), AllocError>
+    // Asks for a name and a password (RFC 9110 section 15.5.2), and closes the connection of a long request.
+    fn refuse(&self, request: &Request<Bytes>, response: &mut Response) -> Result<(), AllocError>
         requires { IsBlank response.old }
-        ensures { OnOk result (IsResponse 401 ((codes "www-authenticate", self.now.challenge.bytes) ∷ []) [] response.new) }
+        ensures { OnOk result (IsResponse 401 ((codes "www-authenticate", self.now.challenge.bytes) ∷ close_field request.now) [] response.new) }
     {
         response.status = StatusCode::UNAUTHORIZED;
         let name = HeaderName::from_static("www-authenticate");
-        response.add_header(name, self.challenge.clone()?)
+        response.add_header(name, self.challenge.clone()?)?;
+        close_behind_long(request, response)
     }
 }
 
-// Says that too many guesses were wrong, and when the next may be right (RFC 6585 section 4).
-fn hold_back(response: &mut Response) -> Result<(), AllocError>
+// Says that too many guesses were wrong, and when the next may be right (RFC 6585 section 4), and closes the connection of a long request.
+fn hold_back(request: &Request<Bytes>, response: &mut Response) -> Result<(), AllocError>
     requires { IsBlank response.old }
-    ensures { OnOk result (IsResponse 429 ((codes "retry-after", codes "1") ∷ []) [] response.new) }
+    ensures { OnOk result (IsResponse 429 ((codes "retry-after", codes "1") ∷ close_field request.now) [] response.new) }
 {
     response.status = StatusCode::TOO_MANY_REQUESTS;
     response.add_header(
         HeaderName::from_static("retry-after"),
         HeaderValue::from_static("1"),
-    )
+    )?;
+    close_behind_long(request, response)
 }

@@ -12,6 +12,7 @@ ghost use Rattle.dav_login_core.specs.LoginViews.{login};
 ghost use Rattle.dav_login_core.specs.RunsBehind.{LoginRun, RunsBehind};
 ghost use Rattle.dav_login_core.specs.declared.login.Login.{Login};
 
+use crate::watching::Host;
 use http_frames::gate::TurnService;
 use http_server::Service;
 
@@ -42,11 +43,11 @@ pub fn turns_lead_behind<S: TurnService, H>()
 
 /// The law of whole runs (own): over any events that lead a login from one state to another, while files of users come, the service behind it is led by the same events with those calls alone that
 /// were passed on. A call is passed on as a user's only where it sends a name and a password that are accepted by the users in force at it, as nobody's only where it is an OPTIONS without
-/// `Authorization`; each other is answered 401, or 429 where it sends a name and a password, and the service is not asked. It does nothing.
-pub fn runs_lead_behind<S: TurnService, H>()
+/// `Authorization`; each other is answered 401, or 429 where it sends a name and a password, and the service is not asked. The users stay at a file only where the host is told why. It does nothing.
+pub fn runs_lead_behind<S: TurnService, H: Host>()
     ensures { (old new : Login S H) (events : List Event)
-        → LoginRun S.begins S.answers S.clocked S.listed old events new
-        → RunsBehind S.begins S.answers S.clocked S.listed (login old) events (login new) }
+        → LoginRun S.begins S.answers S.clocked S.listed H.told old events new
+        → RunsBehind S.begins S.answers S.clocked S.listed H.told (login old) events (login new) }
 {}
 
 /// The law of limits (own). In some seconds, whatever else happens, no more passwords are hashed than twenty and twenty for each second, of all labels together; and of these no more are wrong than

@@ -53,7 +53,7 @@ impl<S: Service + Drop, H: Host + Drop> Login<S, H> {
         fields: Fields,
         key: [u8; 32],
     ) -> Result<Login<S, H>, LoginError>
-        ensures ok { IfOk result (λ l. login l ≡ record { door = record { users = users_in users; challenge = challenge realm.now; header = fields.user; address_field = fields.address; key = key }; known = []; service = service }) }
+        ensures ok { IfOk result (λ l. login l ≡ record { door = record { users = users_in users; challenge = challenge realm.now; header = fields.user; address_field = fields.address; key = key }; known = []; service = service; host = host }) }
         ensures realm { IsErrOf result LoginError.Realm ↔ (is_realm realm.now ≡ false) }
     {
         let challenge = challenge(alloc, realm)?;
@@ -69,7 +69,7 @@ impl<S: Service + Drop, H: Host + Drop> Login<S, H> {
 }
 
 /// A request with a user's name and password is passed on as that user's, and an OPTIONS without `Authorization` as nobody's. Any other is answered 401, or 429 where too many guesses were wrong,
-/// and the service is not asked. `AllocError` where there is no memory for the changed request or the answer.
+/// and the service is not asked; where its body is long its connection is closed behind that. `AllocError` where there is no memory for the changed request or the answer.
 impl<S: Service, H: Host> Service for Login<S, H> {
     ghost answers = { λ old request response new. LoggedIn S.answers (login old) request response (login new) };
 
@@ -96,6 +96,7 @@ impl<S: Service, H: Host> Login<S, H> {
         ensures door { (login self.new).door ≡ (login self.old).door }
         ensures service { (login self.new).service ≡ (login self.old).service }
         ensures known { LearnsBy lesson (login self.old).known (login self.new).known }
+        ensures host { (login self.new).host ≡ (login self.old).host }
     {
         match lesson {
             Lesson::Nothing => {}
@@ -108,7 +109,7 @@ impl<S: Service, H: Host> Login<S, H> {
 impl<S, H: Host> Login<S, H> {
     // The users are those of the file from now on, or it is told why not.
     pub(crate) fn list_users(&mut self, file: &[u8])
-        ensures lists { Lists (login self.old) file.now (login self.new) }
+        ensures lists { Lists H.told (login self.old) file.now (login self.new) }
         ensures service { self.new.service ≡ self.old.service }
     {
         match Users::read(self.alloc, file) {

@@ -17,13 +17,19 @@ impl<S: TurnService, H: Host> TurnService for Login<S, H> {
 
     ghost clocked = { λ old moment new. HandsOn S.clocked (login old) moment (login new) };
 
-    ghost listed = { λ old file new. ListsUsers S.listed (login old) file (login new) };
+    ghost listed = { λ old file new. ListsUsers S.listed H.told (login old) file (login new) };
 
     ghost room = { λ l. S.room (login l).service };
+
+    ghost user = { λ l. S.user (login l).service };
 
     fn begin_turn(&mut self, number: u64, address: &[u8], bytes: u64) {
         self.watch.turn(address);
         self.service.begin_turn(number, address, bytes);
+    }
+
+    fn user(&self) -> &[u8] {
+        self.service.user()
     }
 
     fn own_len(&self, request: &Request<Bytes>, response: &Response) -> u64 {

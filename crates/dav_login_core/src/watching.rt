@@ -1,7 +1,8 @@
 //! Who guesses, and when.
 ghost use Rattle.std.specs.Prelude.{◌≡◌, true, false, [], string_bytes};
-ghost use Rattle.dav_login_core.specs.declared.addresses.Addresses.{Addresses};
+ghost use Rattle.dav_users_core.specs.declared.error.UsersError as users_errors;
 ghost use Rattle.dav_login_core.specs.ClientAddresses.{address_of_request, kept_address};
+ghost use Rattle.dav_login_core.specs.Watching.{Watched};
 ghost use Rattle.dav_users_core.specs.Users.{is_password, users_in};
 ghost use Rattle.dav_login_core.specs.declared.checking.Verdict.TheVariants.{Right, Wrong};
 
@@ -21,11 +22,15 @@ use std::marker::Model;
 
 /// What a login knows of the world.
 pub trait Host {
+    // From the first state, the word that a file of users was not read, for this reason, leaves the second.
+    ghost told: { Self → users_errors.UsersError → Self → Type 0 };
+
     /// The moment, in nanoseconds of a clock. It does not go back, but where the clock is set.
-    fn now(&mut self) -> u64;
+    fn now(&self) -> u64;
 
     /// Takes word that a file of users was not read, so that those stay that were in force.
-    fn tell(&mut self, error: &UsersError);
+    fn tell(&mut self, error: &UsersError)
+        ensures { told self.old error.now self.new };
 }
 
 /// The limits of guesses, who was let in from where, and by what clients are known. The limits decide how soon a password is checked, and never whether it is right: so contracts see nothing of them here. That
@@ -39,16 +44,17 @@ pub(crate) struct Watch<H> {
 }
 
 impl<H> Model for Watch<H> {
-    ghost Value = { Addresses };
+    ghost Value = { Watched H };
 
-    ghost view = { λ w. w.addresses };
+    ghost view = { λ w. record { addresses = w.addresses; host = w.host } };
 }
 
 impl<H: Host> Watch<H> {
     /// Nobody has guessed. Clients are known by this field, where one is chosen.
     pub(crate) fn new(alloc: Global, host: H, address_field: Option<HeaderName>) -> Watch<H>
-        ensures field { result.field ≡ address_field }
-        ensures connection { result.connection.items ≡ [] }
+        ensures host { result.host ≡ host }
+        ensures field { result.addresses.field ≡ address_field }
+        ensures connection { result.addresses.connection.items ≡ [] }
     {
         Watch {
             host,
@@ -60,15 +66,16 @@ impl<H: Host> Watch<H> {
 
     /// Takes word that a turn of a connection comes whose client has the address. One that is longer than 64 bytes counts as none.
     pub(crate) fn turn(&mut self, address: &[u8])
-        ensures field { self.new.field ≡ self.old.field }
-        ensures connection { self.new.connection.items ≡ kept_address address.now }
+        ensures host { self.new.host ≡ self.old.host }
+        ensures field { self.new.addresses.field ≡ self.old.addresses.field }
+        ensures connection { self.new.addresses.connection.items ≡ kept_address address.now }
     {
         self.addresses.turn(address);
     }
 
     /// The address of a request of the connection whose turn it is.
     pub(crate) fn address_of<'a>(&'a self, request: &'a Request<Bytes>) -> &'a [u8]
-        ensures { result.now ≡ address_of_request self.now request.now }
+        ensures { result.now ≡ address_of_request self.now.addresses request.now }
     {
         self.addresses.of(request)
     }
@@ -110,7 +117,8 @@ impl<H: Host> Watch<H> {
 
     /// Takes word that a file of users was not read.
     pub(crate) fn tell(&mut self, error: &UsersError)
-        ensures { self.new ≡ self.old }
+        ensures told { H.told self.old.host error.now self.new.host }
+        ensures addresses { self.new.addresses ≡ self.old.addresses }
     {
         self.host.tell(error);
     }

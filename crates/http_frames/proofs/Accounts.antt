@@ -4,7 +4,7 @@ use Rattle.std.proofs.lemmas.Bool.{eq-eqb, ne_eqb}
 use Rattle.std.proofs.lemmas.Bool.Decides.{eqb_tells}
 use Rattle.std.proofs.lemmas.List.Elements.{All-head, All-tail}
 use Rattle.std.proofs.lemmas.List.Sums.{fold_push}
-use Rattle.http_frames.specs.ConnectionEvents.{Event, Account, Place, Going, Left, Stopped, Over, Came, Rejected, Took, Gone, Answered, Told, Granted, Awaited, Ended, Clock, Free, From, Users, Asked, Nothing, Touched, Closed, is_general, number_of, new_account, add_going, add_at, add_event, account, IsOfBegun}
+use Rattle.http_frames.specs.ConnectionEvents.{Event, Account, Place, Going, Left, Stopped, Over, Came, Rejected, Took, Gone, Answered, Told, Granted, Awaited, Known, Ended, Clock, Free, From, Users, Late, Turned, Asked, Nothing, Touched, Closed, is_general, number_of, new_account, add_going, add_at, add_event, account, IsOfBegun}
 
 cases : (b : Bool) → (b ≡ true) ⊎ (b ≡ false)
 cases true = inl refl
@@ -26,6 +26,8 @@ general (Clock moment) is = (refl, λ a. refl)
 general (Free count) is = (refl, λ a. refl)
 general (From n address) is = (refl, λ a. refl)
 general (Users file) is = (refl, λ a. refl)
+general (Late n) is = (refl, λ a. refl)
+general (Turned address count) is = (refl, λ a. refl)
 general Asked is = (refl, λ a. refl)
 general Nothing is = (refl, λ a. refl)
 general Touched is = (refl, λ a. refl)
@@ -38,6 +40,7 @@ general (Answered n calls) is = cc
 general (Told n bytes) is = cc
 general (Granted n count) is = cc
 general (Awaited n part count) is = cc
+general (Known n) is = cc
 general (Ended n) is = cc
 
 pub account-general : (n : ℕ) (es : List Event) (e : Event) → is_general e ≡ true → 0 < n → account n (es ++ e ∷ []) ≡ account n es

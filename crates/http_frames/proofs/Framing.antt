@@ -10,13 +10,13 @@ use Rattle.http_frames.specs.declared.held.Held.{Held}
 use Rattle.http_frames.specs.declared.frames.Head.{Head}
 use Rattle.http_frames.specs.declared.frames.Head.TheVariants as head
 use Rattle.http_frames.specs.Clients.{Adds, Joins, StaysSo, Takes, asked_of, count_begun, config_of, held_at, queue_of, window_of}
-use Rattle.http_frames.specs.ConnectionEvents.{Event, Came, Rejected, Took, Gone, Clock, Free, From, Users, Nothing, Touched, IsNoTick, IsNumber, event_text}
+use Rattle.http_frames.specs.ConnectionEvents.{Event, Came, Rejected, Took, Gone, Clock, Free, From, Users, Late, Turned, Nothing, Touched, IsNoTick, IsNumber, event_text}
 use Rattle.http_frames.specs.Frames.{BreaksOff, IsFrame}
 use Rattle.http_frames.specs.TurnRuns.{BreaksTold, EventDoes, InOrder, IsSaid, TellsAll, turn_in, turns_of, windows_after}
 use Rattle.http_frames.specs.FrameSteps.{BreaksUnturned, IsWrongFor, TakesFrame}
 use Rattle.http_frames.proofs.Ends.{taken_wrong, unasked}
 use Rattle.http_frames.proofs.Happenings.{one_leads, one_said, told_leads, told_no_tick, told_said, told_turns}
-use Rattle.http_frames.proofs.Moments.{clock_one, free_one, joined, none as no_moments, touched_one, joins_line, one, same_line, still, users_one}
+use Rattle.http_frames.proofs.Moments.{clock_one, free_one, joined, late_one, turned_one, none as no_moments, touched_one, joins_line, one, same_line, still, users_one}
 
 one_no_tick : (e : Event) → IsNoTick e → All IsNoTick (e ∷ [])
 one_no_tick e no_tick = All-cons IsNoTick e [] no_tick (All-nil IsNoTick)
@@ -24,6 +24,10 @@ one_no_tick e no_tick = All-cons IsNoTick e [] no_tick (All-nil IsNoTick)
 -- more was taken than was handed out, or of a connection that has not begun
 pub untaken_frame : (h : Option Head) (n count : ℕ) (c : Clients) (r : Bool) → h ≡ Some (head.Taken n count) → IsTrue r ↔ (IsNumber (count_begun c) n × IfSome (held_at c n) (λ (k : Held). count ≤ k.ahead)) → r ≡ false → IsWrongFor c h
 untaken_frame h n count c r is order none = subst (IsWrongFor c) (sym is) (taken_wrong c n count (λ fits. true≢false (sym (order.1 fits) ∙ none)))
+
+-- the client of a connection that has not begun can't be too slow
+pub unlate_frame : (h : Option Head) (n : ℕ) (c : Clients) → h ≡ Some (head.Late n) → ¬ (IsNumber (count_begun c) n) → IsWrongFor c h
+unlate_frame h n c is not = subst (IsWrongFor c) (sym is) (λ events has. not)
 
 module _ {S : Type 0} (begins : S → ℕ → S → Type 0) (answers : S → Request (List ℕ) → Response → S → Type 0) (clocked : S → ℕ → S → Type 0) (listed : S → List ℕ → S → Type 0) where
   -- one thing
@@ -116,6 +120,26 @@ module _ {S : Type 0} (begins : S → ℕ → S → Type 0) (answers : S → Req
 
   pub touch_breaks : (c : Clients) (s : S) (held holds : Option (List ℕ)) → BreaksOff held holds → BreaksUnturned begins answers clocked listed c c s s held holds
   touch_breaks c s held holds off = ([], no_moments c, refl, (held, Appends-nil held, off), refl, All-nil IsNoTick)
+
+  -- ---- clients that were sent away
+
+  pub late_frame : (h : Option Head) (n : ℕ) (bytes : List ℕ) (c : Clients) (s : S) (held : Option (List ℕ)) → h ≡ Some (head.Late n) → TakesFrame begins answers clocked listed true h bytes c c s s held held
+  late_frame h n bytes c s held is =
+      subst (λ (h : Option Head). TakesFrame begins answers clocked listed true h bytes c c s s held held) (sym is)
+      (λ text frame. (Late n ∷ [], late_one c n, one_leads begins answers clocked listed (Late n) s s refl, one_said (Late n) text frame, Appends-nil held, refl, inr (one_no_tick (Late n) tt)))
+
+  pub turned_frame : (h : Option Head) (count : ℕ) (bytes : List ℕ) (c : Clients) (s : S) (held : Option (List ℕ)) → h ≡ Some (head.Turned count) → TakesFrame begins answers clocked listed true h bytes c c s s held held
+  turned_frame h count bytes c s held is =
+      subst (λ (h : Option Head). TakesFrame begins answers clocked listed true h bytes c c s s held held) (sym is)
+      (λ text frame. (
+        Turned bytes count ∷ [],
+        turned_one c bytes count,
+        one_leads begins answers clocked listed (Turned bytes count) s s refl,
+        one_said (Turned bytes count) text frame,
+        Appends-nil held,
+        refl,
+        inr (one_no_tick (Turned bytes count) tt),
+      ))
 
   -- ---- the users
 

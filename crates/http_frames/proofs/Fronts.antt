@@ -6,7 +6,7 @@ use Rattle.std.proofs.lemmas.Fmt.{contents_after_writes}
 use Rattle.std.specs.Fmt.{WritesInCalls}
 use Rattle.std.specs.Result.{is_err}
 use Rattle.arrayvec.specs.ArrayString.{ArrayString}
-use Rattle.http_frames.specs.Frames.{AppendsFront, BreaksOff, grant_text, piece_text, wait_text}
+use Rattle.http_frames.specs.Frames.{AppendsFront, BreaksOff, grant_text, known_text, piece_text, wait_text}
 
 pub kept_none : (a b : Option (List ℕ)) → Keeps a b → Appends a b []
 kept_none None b k = tt
@@ -59,15 +59,22 @@ grant_off n count held holds x = (grant_text n count, inr (inl (n, count, refl))
 pub wait_off : (n : ℕ) (part : Bool) (count : ℕ) (held holds : Option (List ℕ)) → AppendsFront (wait_text n part count) held holds → BreaksOff held holds
 wait_off n part count held holds x = (wait_text n part count, inr (inr (inl (n, part, count, refl))), x)
 
+pub known_off : (n : ℕ) (held holds : Option (List ℕ)) → AppendsFront (known_text n) held holds → BreaksOff held holds
+known_off n held holds x = (known_text n, inr (inr (inr (inl (n, refl)))), x)
+
 pub more_off : (held holds : Option (List ℕ)) → AppendsFront (codes "more\n") held holds → BreaksOff held holds
-more_off held holds x = (codes "more\n", inr (inr (inr (inl refl))), x)
+more_off held holds x = (codes "more\n", inr (inr (inr (inr (inl refl)))), x)
 
 pub touched_off : (held holds : Option (List ℕ)) → AppendsFront (codes "touched\n") held holds → BreaksOff held holds
-touched_off held holds x = (codes "touched\n", inr (inr (inr (inr refl))), x)
+touched_off held holds x = (codes "touched\n", inr (inr (inr (inr (inr refl)))), x)
 
 -- a grant is its one line
 pub grant_is : (n count : ℕ) (line : List ℕ) → line ≡ codes "grant " ++ decimal n ++ 32 ∷ (decimal count ++ 10 ∷ []) → line ≡ grant_text n count
 grant_is n count line is = rw is (simp append_assoc)
+
+-- so is the word that a user was let in
+pub known_is : (n : ℕ) (line : List ℕ) → line ≡ codes "known " ++ decimal n ++ 10 ∷ [] → line ≡ known_text n
+known_is n line is = rw is (simp append_assoc)
 
 -- so is the word that a connection waits
 abbrev pub wait_word : Bool → List ℕ

@@ -7,7 +7,7 @@ use Rattle.std.specs.Io.KnownBytes.{Appends}
 use Rattle.http.specs.declared.request.Request.{Request}
 use Rattle.http_server.specs.declared.response.Response.{Response}
 use Rattle.http_frames.specs.declared.clients.Windows.{Windows}
-use Rattle.http_frames.specs.ConnectionEvents.{Event, Came, Rejected, Took, Gone, Answered, Told, Granted, Awaited, Ended, Clock, Free, From, Users, Asked, Nothing, Touched, Closed, IsNoTick, IsOut, event_text}
+use Rattle.http_frames.specs.ConnectionEvents.{Event, Came, Rejected, Took, Gone, Answered, Told, Granted, Awaited, Known, Ended, Clock, Free, From, Users, Late, Turned, Asked, Nothing, Touched, Closed, IsNoTick, IsOut, event_text}
 use Rattle.http_frames.specs.TurnRuns.{AreSaid, EventDoes, InOrder, IsSaid, EventsLead, WritesUpTo, told_text, turn_in, turns_of, windows_after}
 
 -- ---- the windows
@@ -67,6 +67,7 @@ pub telling : (closed : Bool) (e : Event) → IsOut closed e → IsTelling e
 telling closed (Told n bytes) out = record { turn = refl; said = refl; window = λ w. refl; out = tt; no_tick = tt }
 telling closed (Granted n count) out = record { turn = refl; said = refl; window = λ w. refl; out = refl; no_tick = tt }
 telling closed (Awaited n part count) out = record { turn = refl; said = refl; window = λ w. refl; out = tt; no_tick = tt }
+telling closed (Known n) out = record { turn = refl; said = refl; window = λ w. refl; out = tt; no_tick = tt }
 telling closed (Ended n) out = record { turn = refl; said = refl; window = λ w. refl; out = tt; no_tick = tt }
 telling closed (Came n bytes) out = absurd out
 telling closed (Rejected n bytes) out = absurd out
@@ -77,6 +78,8 @@ telling closed (Clock moment) out = absurd out
 telling closed (Free count) out = absurd out
 telling closed (From n address) out = absurd out
 telling closed (Users file) out = absurd out
+telling closed (Late n) out = absurd out
+telling closed (Turned address count) out = absurd out
 telling closed Asked out = absurd out
 telling closed Nothing out = absurd out
 telling closed Touched out = absurd out
@@ -100,6 +103,7 @@ module _ {S : Type 0} (begins : S → ℕ → S → Type 0) (answers : S → Req
   told_does (Told n bytes) s out = refl
   told_does (Granted n count) s out = refl
   told_does (Awaited n part count) s out = refl
+  told_does (Known n) s out = refl
   told_does (Ended n) s out = refl
   told_does (Came n bytes) s out = refl
   told_does (Rejected n bytes) s out = refl
@@ -110,6 +114,8 @@ module _ {S : Type 0} (begins : S → ℕ → S → Type 0) (answers : S → Req
   told_does (Free count) s out = refl
   told_does (From n address) s out = refl
   told_does (Users file) s out = absurd out
+  told_does (Late n) s out = refl
+  told_does (Turned address count) s out = refl
   told_does Asked s out = refl
   told_does Nothing s out = refl
   told_does Touched s out = refl

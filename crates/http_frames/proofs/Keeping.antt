@@ -9,7 +9,7 @@ use Rattle.http_frames.specs.declared.clients.Clients.{Clients}
 use Rattle.http_frames.specs.declared.held.Held.{Held}
 use Rattle.http_frames.specs.declared.clients.Windows.{Windows}
 use Rattle.http_frames.specs.Clients.{NoTwice, Stands, Has, StaysSo, Adds, asked_of, count_begun, closed_window, config_of, window_of, queue_of, held_at}
-use Rattle.http_frames.specs.ConnectionEvents.{Event, Account, Came, Rejected, Took, Gone, Answered, Told, Granted, Awaited, Ended, Clock, Free, From, Users, Asked, Nothing, Touched, Closed, number_of, add_at, account, asks_after, awaits, is_general, IsNumber, IsOfBegun}
+use Rattle.http_frames.specs.ConnectionEvents.{Event, Account, Came, Rejected, Took, Gone, Answered, Told, Granted, Awaited, Known, Ended, Clock, Free, From, Users, Late, Turned, Asked, Nothing, Touched, Closed, number_of, add_at, account, asks_after, awaits, is_general, IsNumber, IsOfBegun}
 use Rattle.http_frames.specs.Private.Steps.{LooksAlike, MovesOne}
 use Rattle.http_frames.proofs.Accounts.{account-same, account-other, account-general}
 use Rattle.http_frames.proofs.Places.{Line}
@@ -29,11 +29,14 @@ asking_same b (Answered n calls) plain = refl
 asking_same b (Told n bytes) plain = refl
 asking_same b (Granted n count) plain = refl
 asking_same b (Awaited n part count) plain = refl
+asking_same b (Known n) plain = refl
 asking_same b (Ended n) plain = refl
 asking_same b (Clock moment) plain = refl
 asking_same b (Free count) plain = refl
 asking_same b (From n address) plain = refl
 asking_same b (Users file) plain = refl
+asking_same b (Late n) plain = refl
+asking_same b (Turned address count) plain = refl
 asking_same b Asked plain = cc
 asking_same b Nothing plain = cc
 asking_same b Touched plain = refl

@@ -8,6 +8,7 @@ pub mod Framing
 pub mod Fronts
 pub mod Happenings
 pub mod Keeping
+pub mod Learning
 pub mod Lines
 pub mod Moments
 pub mod Once

@@ -4,7 +4,7 @@ use Rattle.std.proofs.lemmas.List.{get_or-take, take_more}
 use Rattle.std.proofs.lemmas.List.Elements.{All-from_get_or}
 use Rattle.memchr.specs.Find.{IsFirstByte, is_byte}
 use Rattle.http_frames.specs.declared.frames.Head.{Head}
-use Rattle.http_frames.specs.declared.frames.Head.TheVariants.{Piece, Taken, Gone, Clock, Free, From, Users, Nothing, Touch, Go}
+use Rattle.http_frames.specs.declared.frames.Head.TheVariants.{Piece, Taken, Gone, Clock, Free, From, Users, Late, Turned, Nothing, Touch, Go}
 use Rattle.http_frames.specs.Frames.{IsLine, IsFrame, IsPart, frame_bytes, head, more_in}
 
 -- no line has come whole
@@ -47,6 +47,8 @@ framed (Some (Taken n l)) bytes k m line says is within = (take k bytes, bare by
 framed (Some (Gone n)) bytes k m line says is within = (take k bytes, bare bytes k m line is, says)
 framed (Some (Clock n)) bytes k m line says is within = (take k bytes, bare bytes k m line is, says)
 framed (Some (Free n)) bytes k m line says is within = (take k bytes, bare bytes k m line is, says)
+framed (Some (Late n)) bytes k m line says is within = (take k bytes, bare bytes k m line is, says)
+framed (Some (Turned n)) bytes k m line says is within = (take k bytes, bare bytes k m line is, says, refl)
 framed (Some (From n)) bytes k m line says is within = (take k bytes, bare bytes k m line is, says, refl)
 framed (Some (Users l)) bytes k m line says is within =
     let behind = take ((k + 1 + m) - (k + 1)) (drop (k + 1) bytes) in

@@ -5,7 +5,7 @@ use Rattle.std.proofs.lemmas.Grind.{flat_map-append}
 use Rattle.http_frames.specs.declared.clients.Clients.{Clients}
 use Rattle.http_frames.specs.declared.clients.Windows.{Windows}
 use Rattle.http_frames.specs.Clients.{Adds, Alone, Has, Joins, StaysSo, count_begun, config_of, queue_of, window_of}
-use Rattle.http_frames.specs.ConnectionEvents.{Event, Clock, Free, Touched, Users, account}
+use Rattle.http_frames.specs.ConnectionEvents.{Event, Clock, Free, Late, Touched, Turned, Users, account}
 use Rattle.http_frames.specs.TurnRuns.{AtMoment, InOrder, Moments, turn_in, turns_of, windows_after}
 use Rattle.http_frames.proofs.Accounts.{account-none, account-zero}
 use Rattle.http_frames.proofs.Beginning.{new_alone}
@@ -89,6 +89,13 @@ clock_one c m = one c c (Clock m) (word_then c c (Clock m) refl (λ b. refl) (al
 -- word of what is free on the disk
 pub free_one : (c : Clients) (count : ℕ) → Moments (Free count ∷ []) c c
 free_one c count = one c c (Free count) (word_then c c (Free count) refl (λ b. refl) (all_alike c)) ([], sym (append-nil (queue_of c))) refl refl
+
+-- word of a client that was too slow, and of connections that had no place
+pub late_one : (c : Clients) (number : ℕ) → Moments (Late number ∷ []) c c
+late_one c number = one c c (Late number) (word_then c c (Late number) refl (λ b. refl) (all_alike c)) ([], sym (append-nil (queue_of c))) refl refl
+
+pub turned_one : (c : Clients) (address : List ℕ) (count : ℕ) → Moments (Turned address count ∷ []) c c
+turned_one c address count = one c c (Turned address count) (word_then c c (Turned address count) refl (λ b. refl) (all_alike c)) ([], sym (append-nil (queue_of c))) refl refl
 
 -- a touch
 pub touched_one : (c : Clients) → Moments (Touched ∷ []) c c

@@ -5,7 +5,7 @@ use Rattle.http_server.specs.declared.response.Response.{Response}
 use Rattle.http_server.specs.Exchange.{Call, Chain}
 use Rattle.http_frames.specs.declared.clients.Clients.{Clients}
 use Rattle.http_frames.specs.declared.serving.End.{End}
-use Rattle.http_frames.specs.ConnectionEvents.{Event, Came, Rejected, Took, Gone, Answered, Told, Granted, Awaited, Ended, Clock, Free, From, Users, Asked, Nothing, Touched, Closed}
+use Rattle.http_frames.specs.ConnectionEvents.{Event, Came, Rejected, Took, Gone, Answered, Told, Granted, Awaited, Known, Ended, Clock, Free, From, Users, Late, Turned, Asked, Nothing, Touched, Closed}
 use Rattle.http_frames.specs.Clients.{GivesTurn}
 use Rattle.http_frames.specs.Gate.{BeginsWithin, TakesTurn}
 use Rattle.http_frames.specs.TurnRuns.{RunsInTurns, EventDoes, EventsLead}
@@ -36,7 +36,10 @@ module _ {S T : Type 0} (f : S → T) (begins : S → ℕ → S → Type 0) (ans
   does_to (Told n bytes) s s' x = ap f x
   does_to (Granted n count) s s' x = ap f x
   does_to (Awaited n part count) s s' x = ap f x
+  does_to (Known n) s s' x = ap f x
   does_to (Ended n) s s' x = ap f x
+  does_to (Late n) s s' x = ap f x
+  does_to (Turned address count) s s' x = ap f x
   does_to Asked s s' x = ap f x
   does_to Nothing s s' x = ap f x
   does_to Touched s s' x = ap f x

@@ -14,8 +14,8 @@ use Rattle.http_server.proofs.Theorems.{always_served}
 use Rattle.http_frames.specs.declared.held.Held.{Held}
 use Rattle.http_frames.specs.declared.clients.Windows.{Windows}
 use Rattle.http_frames.specs.Clients.{Alone, AreAnswered, Stands, closed_window, history_of}
-use Rattle.http_frames.specs.ConnectionEvents.{Event, Account, Place, Going, Over, Took, Granted, Awaited, add_going, add_at, new_account, IsIdle}
-use Rattle.http_frames.specs.Private.Steps.{Waits, GrantsMore, TellsWait}
+use Rattle.http_frames.specs.ConnectionEvents.{Event, Account, Place, Going, Over, Took, Granted, Awaited, Known, add_going, add_at, new_account, IsIdle}
+use Rattle.http_frames.specs.Private.Steps.{Waits, GrantsMore, TellsKnown, TellsWait}
 use Rattle.http_frames.proofs.Accounts.{at_going, at_late}
 use Rattle.http_frames.proofs.Places.{not_over, joined}
 
@@ -310,6 +310,32 @@ module _ (config : Config) (window : Windows) (n : ℕ) where
           over = s.0.over;
           late = s.0.late;
         },
+        record {
+          config_is = s.1.config_is;
+          history_is = s.1.history_is;
+          going = s.1.going;
+          ended = s.1.ended;
+          ahead = s.1.ahead;
+          room = s.1.room;
+          heard = s.1.heard;
+          behind = s.1.behind;
+          fits = s.1.fits;
+          due = s.1.due;
+          answered = s.1.answered;
+          queued = s.1.queued;
+          unqueued = s.1.unqueued;
+          waits = s.1.waits;
+        },
+      ))
+
+  -- ---- it was told that a user was let in
+
+  pub known : (queue : List ℕ) (k k' : Held) (a : Account) (held holds : Option (List ℕ)) → TellsKnown n k k' held holds → Stands config window queue n (Some k) a
+      → Stands config window queue n (Some k') (add_at a.place a (Known n))
+  known queue k k' a held holds g s =
+      subst (λ (x : Held). Stands config window queue n (Some x) (add_at a.place a (Known n))) (sym g.now)
+      (subst (Stands config window queue n (Some (record k { told = true }))) (sym (at_going a (Known n) s.1.going)) (
+        s.0,
         record {
           config_is = s.1.config_is;
           history_is = s.1.history_is;

@@ -10,12 +10,12 @@ use Rattle.http_server.proofs.Theorems.{never_stalls}
 use Rattle.http_frames.specs.declared.clients.Clients.{Clients}
 use Rattle.http_frames.specs.declared.held.Held.{Held}
 use Rattle.http_frames.specs.Clients.{Stands, Has, StaysSo, Adds, GivesTurn, TellsNext, NoTwice, count_begun, config_of, window_of, queue_of, held_at, history_of}
-use Rattle.http_frames.specs.ConnectionEvents.{Event, Account, Place, Going, Left, Over, Came, Took, Gone, Answered, Told, Granted, Awaited, number_of, is_general, add_at, add_going, account, IsNumber}
-use Rattle.http_frames.specs.Private.Steps.{JoinsFresh, Waits, GrantsMore, Speaks, Steps, Sends, TellsWait, MovesOne, HearsAt, TakesAt}
+use Rattle.http_frames.specs.ConnectionEvents.{Event, Account, Place, Going, Left, Over, Came, Took, Gone, Answered, Known, Told, Granted, Awaited, number_of, is_general, add_at, add_going, account, IsNumber}
+use Rattle.http_frames.specs.Private.Steps.{JoinsFresh, Waits, GrantsMore, Speaks, Steps, Sends, TellsKnown, TellsWait, MovesOne, HearsAt, TakesAt}
 use Rattle.http_frames.proofs.Places.{Line, line-same, line-joins, line-popped, popped_once}
 use Rattle.http_frames.proofs.Keeping.{moved, moved-still, stood, unmoved}
 use Rattle.http_frames.proofs.Answering.{heard, dropped, told, over, answered}
-use Rattle.http_frames.proofs.Standing.{waiting, late, took, leaves, granted, awaited}
+use Rattle.http_frames.proofs.Standing.{waiting, late, took, leaves, granted, awaited, known}
 
 module _ (before after : Clients) (n : ℕ) (some : 0 < n) (within : n ≤ count_begun before) where
   same_line : queue_of after ≡ queue_of before → Line n (count_begun before) (queue_of before) (queue_of after)
@@ -101,6 +101,13 @@ module _ (before after : Clients) (n : ℕ) (some : 0 < n) (within : n ≤ count
       (λ a pauses once s. subst (λ (q : List ℕ). Stands (config_of before) (window_of before) q n (Some k') (add_at a.place a (Awaited n k.part k.heard))) (sym queue)
       (awaited (config_of before) (window_of before) n (queue_of before) k k' a held holds is_open w s))
 
+  -- it was told that a user was let in
+  pub tells_known : (k k' : Held) (held holds : Option (List ℕ)) → TellsKnown n k k' held holds → held_at before n ≡ Some k → MovesOne n (Some k') before after → queue_of after ≡ queue_of before → Adds before after (Known n)
+  tells_known k k' held holds w is m queue =
+      adds (Some k) (Some k') (Known n) is m (λ a s. same_line queue) refl refl
+      (λ a pauses once s. subst (λ (q : List ℕ). Stands (config_of before) (window_of before) q n (Some k') (add_at a.place a (Known n))) (sym queue)
+      (known (config_of before) (window_of before) n (queue_of before) k k' a held holds w s))
+
   -- its end was told
   pub ends : (k : Held) → held_at before n ≡ Some k → IsDone (history_of k) → MovesOne n None before after → queue_of after ≡ queue_of before → Adds before after (Told n [])
   ends k is done m queue =
@@ -116,6 +123,7 @@ module _ (before after : Clients) (n : ℕ) (some : 0 < n) (within : n ≤ count
     out = tt;
     wrote = w.wrote;
     adds = sends k k' held holds w is m;
+    known = tt;
   }
   speaks k k' held holds is m (inr (inl x)) = record {
     event = Granted n k.due;
@@ -123,13 +131,23 @@ module _ (before after : Clients) (n : ℕ) (some : 0 < n) (within : n ≤ count
     out = x.0;
     wrote = x.2.wrote;
     adds = grants k k' held holds x.2 is m x.1;
+    known = tt;
   }
-  speaks k k' held holds is m (inr (inr x)) = record {
+  speaks k k' held holds is m (inr (inr (inl x))) = record {
     event = Awaited n k.part k.heard;
     number_is = refl;
     out = tt;
     wrote = x.2.wrote;
     adds = tells_wait k k' held holds x.0 x.2 is m x.1;
+    known = tt;
+  }
+  speaks k k' held holds is m (inr (inr (inr x))) = record {
+    event = Known n;
+    number_is = refl;
+    out = tt;
+    wrote = x.1.wrote;
+    adds = tells_known k k' held holds x.1 is m x.0;
+    known = rw is x.1.known;
   }
 
   -- it joined the queue, at most

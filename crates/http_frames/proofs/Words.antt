@@ -16,7 +16,7 @@ use Rattle.std.specs.Str.Parse.{digits_value}
 use Rattle.line_streams.proofs.Numerals.{no_digits}
 use Rattle.line_streams.specs.Numerals.{numeral}
 use Rattle.http_frames.specs.declared.frames.Head.{Head}
-use Rattle.http_frames.specs.Frames.{is_single_space, is_address, is_address_byte, gone_in, clock_in, free_in, from_by, from_in, taken_by, taken_in, piece_in, users_head, one_word, other_head_of, head_of, head}
+use Rattle.http_frames.specs.Frames.{is_single_space, is_address, is_address_byte, gone_in, clock_in, free_in, from_by, from_in, taken_by, taken_in, piece_in, users_head, late_in, turned_by, turned_in, one_word, told_head_of, other_head_of, head_of, head}
 
 abbrev Low : List ℕ → Type 0
 Low bytes = All (λ b. b < 128) bytes
@@ -107,13 +107,34 @@ users_low : (rest : List ℕ) (n : Option ℕ) (h : Head) → numeral rest ≡ n
 users_low rest None h is says = cc
 users_low rest (Some n) h is says = number_low rest (Some n) n is refl
 
-others_low-by : (word rest : List ℕ) (h : Head) (free from users : Bool) → bytes_eq word (codes "free") ≡ free → bytes_eq word (codes "from") ≡ from → bytes_eq word (codes "users") ≡ users
-    → other_head_of word rest ≡ Some h → Low word × Low rest
-others_low-by word rest h true from users is was now says = (word_low word (codes "free") refl is, free_low rest (numeral rest) h refl (rw is at says))
-others_low-by word rest h false true users is was now says =
+late_low : (rest : List ℕ) (n : Option ℕ) (h : Head) → numeral rest ≡ n → late_in n ≡ Some h → Low rest
+late_low rest None h is says = cc
+late_low rest (Some n) h is says = number_low rest (Some n) n is refl
+
+turned_low-by : (rest : List ℕ) (n : Option ℕ) (h : Head) (test : Bool) → numeral (after_first is_single_space rest) ≡ n → is_address (before_first is_single_space rest) ≡ test
+    → turned_by (before_first is_single_space rest) n ≡ Some h → Low rest
+turned_low-by rest None h test is was says = cc
+turned_low-by rest (Some n) h false is was says = let none = rw was at says in cc
+turned_low-by rest (Some n) h true is was says =
+    let address = before_first is_single_space rest in
+    around rest
+    (address_low address (behind_and (nat_lt (length address) 65) (list_all is_address_byte address) (behind_and (nat_lt 0 (length address)) (nat_lt (length address) 65 && list_all is_address_byte address) was)))
+    (number_low (after_first is_single_space rest) (Some n) n is refl)
+
+told_low-by : (word rest : List ℕ) (h : Head) (users late turned : Bool) → bytes_eq word (codes "users") ≡ users → bytes_eq word (codes "late") ≡ late → bytes_eq word (codes "turned") ≡ turned
+    → told_head_of word rest ≡ Some h → Low word × Low rest
+told_low-by word rest h true late turned is was now says = (word_low word (codes "users") refl is, users_low rest (numeral rest) h refl (rw is at says))
+told_low-by word rest h false true turned is was now says = (word_low word (codes "late") refl was, late_low rest (numeral rest) h refl (rw (is, was) at says))
+told_low-by word rest h false false true is was now says =
+    (word_low word (codes "turned") refl now, turned_low-by rest (numeral (after_first is_single_space rest)) h (is_address (before_first is_single_space rest)) refl refl (rw (is, was, now) at says))
+told_low-by word rest h false false false is was now says = piece_low word rest (numeral word) (numeral rest) h refl refl (rw (is, was, now) at says)
+
+others_low-by : (word rest : List ℕ) (h : Head) (free from : Bool) → bytes_eq word (codes "free") ≡ free → bytes_eq word (codes "from") ≡ from → other_head_of word rest ≡ Some h → Low word × Low rest
+others_low-by word rest h true from is was says = (word_low word (codes "free") refl is, free_low rest (numeral rest) h refl (rw is at says))
+others_low-by word rest h false true is was says =
     (word_low word (codes "from") refl was, from_low-by rest (numeral (before_first is_single_space rest)) h (is_address (after_first is_single_space rest)) refl refl (rw (is, was) at says))
-others_low-by word rest h false false true is was now says = (word_low word (codes "users") refl now, users_low rest (numeral rest) h refl (rw (is, was, now) at says))
-others_low-by word rest h false false false is was now says = piece_low word rest (numeral word) (numeral rest) h refl refl (rw (is, was, now) at says)
+others_low-by word rest h false false is was says =
+    told_low-by word rest h (bytes_eq word (codes "users")) (bytes_eq word (codes "late")) (bytes_eq word (codes "turned")) refl refl refl (rw (is, was) at says)
 
 words_low-by : (word rest : List ℕ) (h : Head) (gone taken clock : Bool) → bytes_eq word (codes "gone") ≡ gone → bytes_eq word (codes "taken") ≡ taken → bytes_eq word (codes "clock") ≡ clock
     → head_of word rest ≡ Some h → Low word × Low rest
@@ -121,7 +142,7 @@ words_low-by word rest h true taken clock is was now says = (word_low word (code
 words_low-by word rest h false true clock is was now says =
     (word_low word (codes "taken") refl was, taken_low rest (numeral (before_first is_single_space rest)) (numeral (after_first is_single_space rest)) h refl refl (rw (is, was) at says))
 words_low-by word rest h false false true is was now says = (word_low word (codes "clock") refl now, clock_low rest (numeral rest) h refl (rw (is, was, now) at says))
-words_low-by word rest h false false false is was now says = others_low-by word rest h (bytes_eq word (codes "free")) (bytes_eq word (codes "from")) (bytes_eq word (codes "users")) refl refl refl (rw (is, was, now) at says)
+words_low-by word rest h false false false is was now says = others_low-by word rest h (bytes_eq word (codes "free")) (bytes_eq word (codes "from")) refl refl (rw (is, was, now) at says)
 
 one_word_low : (line : List ℕ) (h : Head) (none touch go : Bool) → bytes_eq line (codes "none") ≡ none → bytes_eq line (codes "touch") ≡ touch → bytes_eq line (codes "go") ≡ go → one_word line ≡ Some h → Low line
 one_word_low line h true touch go is was now says = word_low line (codes "none") refl is
@@ -176,17 +197,27 @@ piece_in_none : (n : Option ℕ) → piece_in n None ≡ None
 piece_in_none None = refl
 piece_in_none (Some n) = refl
 
-other_head_of_none : (word : List ℕ) (free from users : Bool) → bytes_eq word (codes "free") ≡ free → bytes_eq word (codes "from") ≡ from → bytes_eq word (codes "users") ≡ users → other_head_of word [] ≡ None
-other_head_of_none word true from users is was now = rw (is, numeral_none) refl
-other_head_of_none word false true users is was now = rw (is, was) (no_address [] refl)
-other_head_of_none word false false true is was now = rw (is, was, now, numeral_none) refl
-other_head_of_none word false false false is was now = rw (is, was, now, numeral_none) (piece_in_none (numeral word))
+pub no_count : (rest : List ℕ) → position_or_len is_single_space rest ≡ length rest → turned_in rest ≡ None
+no_count rest is =
+    let none : after_first is_single_space rest ≡ [] = drop_of_length-le rest {i = position_or_len is_single_space rest + 1} (omega (arith, is)) in
+    ap (λ t. turned_by (before_first is_single_space rest) (numeral t)) none ∙ ap (turned_by (before_first is_single_space rest)) numeral_none
+
+told_head_of_none : (word : List ℕ) (users late turned : Bool) → bytes_eq word (codes "users") ≡ users → bytes_eq word (codes "late") ≡ late → bytes_eq word (codes "turned") ≡ turned → told_head_of word [] ≡ None
+told_head_of_none word true late turned is was now = rw (is, numeral_none) refl
+told_head_of_none word false true turned is was now = rw (is, was, numeral_none) refl
+told_head_of_none word false false true is was now = rw (is, was, now) (no_count [] refl)
+told_head_of_none word false false false is was now = rw (is, was, now, numeral_none) (piece_in_none (numeral word))
+
+other_head_of_none : (word : List ℕ) (free from : Bool) → bytes_eq word (codes "free") ≡ free → bytes_eq word (codes "from") ≡ from → other_head_of word [] ≡ None
+other_head_of_none word true from is was = rw (is, numeral_none) refl
+other_head_of_none word false true is was = rw (is, was) (no_address [] refl)
+other_head_of_none word false false is was = rw (is, was) (told_head_of_none word (bytes_eq word (codes "users")) (bytes_eq word (codes "late")) (bytes_eq word (codes "turned")) refl refl refl)
 
 head_of_none : (word : List ℕ) (gone taken clock : Bool) → bytes_eq word (codes "gone") ≡ gone → bytes_eq word (codes "taken") ≡ taken → bytes_eq word (codes "clock") ≡ clock → head_of word [] ≡ None
 head_of_none word true taken clock is was now = rw (is, numeral_none) refl
 head_of_none word false true clock is was now = rw (is, was) (no_second [] refl)
 head_of_none word false false true is was now = rw (is, was, now, numeral_none) refl
-head_of_none word false false false is was now = rw (is, was, now) (other_head_of_none word (bytes_eq word (codes "free")) (bytes_eq word (codes "from")) (bytes_eq word (codes "users")) refl refl refl)
+head_of_none word false false false is was now = rw (is, was, now) (other_head_of_none word (bytes_eq word (codes "free")) (bytes_eq word (codes "from")) refl refl)
 
 -- a line that is not one of the words is read by its first word and what stands behind it
 pub two_words : (line : List ℕ) → one_word line ≡ None → head line ≡ head_of (before_first is_single_space line) (after_first is_single_space line)

@@ -15,7 +15,7 @@ use Rattle.http_server.specs.History.{History, IsServed, Rests, WantsRead, IsDon
 use Rattle.http_frames.specs.declared.clients.Clients.{Clients}
 use Rattle.http_frames.specs.declared.held.Held.{Held}
 use Rattle.http_frames.specs.declared.clients.Windows.{Windows}
-use Rattle.http_frames.specs.ConnectionEvents.{Event, Account, Came, Rejected, Answered, Going, Over, account, awaits, number_of, event_text, IsOfBegun, IsIdle, IsNumber, IsOut}
+use Rattle.http_frames.specs.ConnectionEvents.{Event, Account, Came, Rejected, Answered, Known, Going, Over, account, awaits, number_of, event_text, IsOfBegun, IsIdle, IsNumber, IsOut}
 use Rattle.http_frames.specs.Frames.{piece_text}
 use Rattle.http_frames.specs.Gate.{TakesTurn}
 
@@ -181,23 +181,29 @@ pub record GivesTurn {S : Type 0} (begins : S → ℕ → S → Type 0) (answers
   pub waits : IfSome (held_at before number) (λ k. (history_of k).pending ≢ [] → (calls ≡ []) × (new ≡ old))
   pub rests : (events : List Event) → Has before events → IfSome (held_at after number) (λ k. IsAtRest (config_of after) (history_of k) × IsAllDue k × IsNews k)
 
--- What went out to it: a piece of the answers that wait, a grant, that it waits for its client, or its end.
+-- that a user was let in is told once, and only where one was
+abbrev pub TellsOfUser : Event → Option Held → Type 0
+TellsOfUser (Known number) o = IfSome o (λ k. IsTrue k.known × IsFalse k.told)
+TellsOfUser _ o = Unit {0}
+
+-- What went out to it: a piece of the answers that wait, a grant, that a user was let in, that it waits for its client, or its end.
 pub record TellsNext (number : ℕ) (before after : Clients) (held holds : Option (List ℕ)) : Type 0 where
   pub event : Event
   pub number_is : number_of event ≡ number
   pub out : IsOut (window_of before).closed event
   pub wrote : Appends held holds (event_text event)
   pub adds : Adds before after event
+  pub known : TellsOfUser event (held_at before number)
 
 -- the window of its answers is full; once the input has ended, that is as far as numbers go
 abbrev pub IsFull : Windows → Held → Type 0
 IsFull windows k = (IsFalse windows.closed × (windows.out ≤ k.ahead)) ⊎ (2 ^ 64 ≤ k.ahead + 1)
 
--- nothing is to be said: an answer waits and its window is full; or none waits, its client may still send half a window or nothing is granted any more, and what it waits for was told
+-- nothing is to be said: an answer waits and its window is full; or none waits, its client may still send half a window or nothing is granted any more, and what it waits for was told, and that a user was let in
 abbrev pub IsHeldBack : Windows → Held → Type 0
 IsHeldBack windows k =
     ((0 < length (history_of k).pending) × IsFull windows k)
-    ⊎ (((history_of k).state ≡ Open) × ((history_of k).pending ≡ []) × (IsFalse windows.closed → k.due + k.due ≤ windows.into + 1) × IsFalse k.news)
+    ⊎ (((history_of k).state ≡ Open) × ((history_of k).pending ≡ []) × (IsFalse windows.closed → k.due + k.due ≤ windows.into + 1) × IsFalse k.news × (IsTrue k.known → IsTrue k.told))
 
 abbrev pub IsStill : ℕ → Clients → Type 0
 IsStill number c = IfSome (held_at c number) (IsHeldBack (window_of c))

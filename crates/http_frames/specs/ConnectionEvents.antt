@@ -1,7 +1,7 @@
 -- What happens to many connections, one thing after another, and what that makes of one of them (own).
 use Rattle.std.specs.Prelude.{◌≡◌, ℕ, ◌+◌, ◌<◌, ◌≤◌, Bool, true, false, ◌&&◌, List, [], ◌∷◌, ◌++◌, length, fold, codes, IsFalse, if◌then◌else◌, ◌==◌}
 use Rattle.http_server.specs.Exchange.{Call}
-use Rattle.http_frames.specs.Frames.{grant_text, piece_text, wait_text}
+use Rattle.http_frames.specs.Frames.{grant_text, known_text, piece_text, wait_text}
 
 -- ---- what happened, one thing after another
 
@@ -22,6 +22,8 @@ pub data Event : Type 0 where
   Granted : ℕ → ℕ → Event
   -- it was told that it waits for its client, of which so many bytes had come, and whether a part of a request has
   Awaited : ℕ → Bool → ℕ → Event
+  -- it was told that a user was let in on it
+  Known : ℕ → Event
   -- it was ended, and that was told
   Ended : ℕ → Event
   -- a frame told the moment
@@ -32,6 +34,10 @@ pub data Event : Type 0 where
   From : ℕ → List ℕ → Event
   -- a frame told who the users are, as the text of a file
   Users : List ℕ → Event
+  -- a frame told that its client was closed since it was too slow
+  Late : ℕ → Event
+  -- a frame told that so many connections from this address had no place
+  Turned : List ℕ → ℕ → Event
   -- `more` was asked, and the answer came that there is nothing
   Asked : Event
   Nothing : Event
@@ -50,11 +56,14 @@ number_of (Answered number calls) = number
 number_of (Told number bytes) = number
 number_of (Granted number count) = number
 number_of (Awaited number part count) = number
+number_of (Known number) = number
 number_of (Ended number) = number
 number_of (Clock moment) = 0
 number_of (Free count) = 0
 number_of (From number address) = 0
 number_of (Users text) = 0
+number_of (Late number) = 0
+number_of (Turned address count) = 0
 number_of Asked = 0
 number_of Nothing = 0
 number_of Touched = 0
@@ -70,6 +79,8 @@ is_general (Clock moment) = true
 is_general (Free count) = true
 is_general (From number address) = true
 is_general (Users text) = true
+is_general (Late number) = true
+is_general (Turned address count) = true
 is_general Asked = true
 is_general Nothing = true
 is_general Touched = true
@@ -85,6 +96,7 @@ abbrev pub IsOut : Bool → Event → Type 0
 IsOut closed (Told number bytes) = Unit {0}
 IsOut closed (Granted number count) = IsFalse closed
 IsOut closed (Awaited number part count) = Unit {0}
+IsOut closed (Known number) = Unit {0}
 IsOut closed (Ended number) = Unit {0}
 IsOut closed _ = ⊥
 
@@ -99,6 +111,7 @@ event_text (Rejected number bytes) = piece_text number []
 event_text (Told number bytes) = piece_text number bytes
 event_text (Granted number count) = grant_text number count
 event_text (Awaited number part count) = wait_text number part count
+event_text (Known number) = known_text number
 event_text (Ended number) = piece_text number []
 event_text Asked = codes "more\n"
 event_text Touched = codes "touched\n"
@@ -165,6 +178,7 @@ add_going a (Answered number calls) = record a { made = a.made ++ calls }
 add_going a (Told number bytes) = add_told (length bytes == 0) a bytes
 add_going a (Granted number count) = record a { granted = a.granted + count }
 add_going a (Awaited number part count) = record a { counted = a.counted && (count == length a.came) }
+add_going a (Known number) = a
 add_going a (Ended number) = record a { place = Stopped }
 add_going a _ = a
 

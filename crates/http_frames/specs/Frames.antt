@@ -7,7 +7,7 @@ use Rattle.std.specs.Str.{bytes_eq}
 use Rattle.line_streams.specs.Numerals.{numeral}
 use Rattle.http_frames.specs.declared.frames.Frames.{Frames}
 use Rattle.http_frames.specs.declared.frames.Head.{Head}
-use Rattle.http_frames.specs.declared.frames.Head.TheVariants.{Piece, Taken, Gone, Clock, Free, From, Users, Nothing, Touch, Go}
+use Rattle.http_frames.specs.declared.frames.Head.TheVariants.{Piece, Taken, Gone, Clock, Free, From, Users, Late, Turned, Nothing, Touch, Go}
 
 -- ---- the head of a frame: words with one blank between them
 
@@ -65,12 +65,34 @@ abbrev pub users_head : Option ℕ → Option Head
 users_head None = None
 users_head (Some length) = if nat_lt 1_048_576 length then None else Some (Users length)
 
+abbrev pub late_in : Option ℕ → Option Head
+late_in None = None
+late_in (Some number) = Some (Late number)
+
+abbrev pub turned_by : List ℕ → Option ℕ → Option Head
+turned_by address None = None
+turned_by address (Some count) = if is_address address then Some (Turned count) else None
+
+-- an address, and how many connections
+abbrev pub turned_in : List ℕ → Option Head
+turned_in rest = turned_by (before_first is_single_space rest) (numeral (after_first is_single_space rest))
+
+-- the word of a line that stands between its first two blanks
+abbrev pub second_word : List ℕ → List ℕ
+second_word line = before_first is_single_space (after_first is_single_space line)
+
+-- where the first word is none of those below
+abbrev pub told_head_of : List ℕ → List ℕ → Option Head
+told_head_of word rest =
+    if bytes_eq word (codes "users") then users_head (numeral rest)
+    else (if bytes_eq word (codes "late") then late_in (numeral rest)
+    else (if bytes_eq word (codes "turned") then turned_in rest else piece_in (numeral word) (numeral rest)))
+
 -- where the first word is none of `gone`, `taken` and `clock`
 abbrev pub other_head_of : List ℕ → List ℕ → Option Head
 other_head_of word rest =
     if bytes_eq word (codes "free") then free_in (numeral rest)
-    else (if bytes_eq word (codes "from") then from_in rest
-    else (if bytes_eq word (codes "users") then users_head (numeral rest) else piece_in (numeral word) (numeral rest)))
+    else (if bytes_eq word (codes "from") then from_in rest else told_head_of word rest)
 
 -- by the first word and what stands behind it
 abbrev pub head_of : List ℕ → List ℕ → Option Head
@@ -103,6 +125,7 @@ more_in _ = 0
 -- what it gives: the address that its line tells, or the bytes that follow the line
 abbrev pub frame_bytes : Option Head → List ℕ → List ℕ → List ℕ
 frame_bytes (Some (From number)) line behind = address_in line
+frame_bytes (Some (Turned count)) line behind = second_word line
 frame_bytes _ line behind = behind
 
 -- ---- a frame that comes in
@@ -137,6 +160,10 @@ Says h text = (line : List ℕ) × IsLine line text × (head line ≡ Some h)
 abbrev pub TellsAddress : ℕ → List ℕ → List ℕ → Type 0
 TellsAddress number address text = (line : List ℕ) × IsLine line text × (head line ≡ Some (From number)) × (address ≡ address_in line)
 
+-- the line tells that so many connections from this address had no place
+abbrev pub TellsTurned : List ℕ → ℕ → List ℕ → Type 0
+TellsTurned address count text = (line : List ℕ) × IsLine line text × (head line ≡ Some (Turned count)) × (address ≡ second_word line)
+
 -- the line is no head, or it has no end within 4096 bytes
 abbrev pub IsWrongLine : List ℕ → Type 0
 IsWrongLine text = ((line : List ℕ) × IsLine line text × (head line ≡ None)) ⊎ (All (λ b. b ≢ 10) text × (4095 < length text))
@@ -151,6 +178,8 @@ IsFrame (Some (Clock moment)) bytes text = Says (Clock moment) text
 IsFrame (Some (Free count)) bytes text = Says (Free count) text
 IsFrame (Some (From number)) bytes text = TellsAddress number bytes text
 IsFrame (Some (Users length)) bytes text = TellsUsers bytes text
+IsFrame (Some (Late number)) bytes text = Says (Late number) text
+IsFrame (Some (Turned count)) bytes text = TellsTurned bytes count text
 IsFrame (Some Nothing) bytes text = Says Nothing text
 IsFrame (Some Touch) bytes text = Says Touch text
 IsFrame (Some Go) bytes text = Says Go text
@@ -190,11 +219,16 @@ abbrev pub wait_text : ℕ → Bool → ℕ → List ℕ
 wait_text number true count = codes "owes " ++ decimal number ++ codes " " ++ decimal count ++ codes "\n"
 wait_text number false count = codes "rests " ++ decimal number ++ codes " " ++ decimal count ++ codes "\n"
 
+-- a user was let in on the connection
+abbrev pub known_text : ℕ → List ℕ
+known_text number = codes "known " ++ decimal number ++ codes "\n"
+
 -- a frame that goes out
 abbrev pub IsFrameOut : List ℕ → Type 0
 IsFrameOut text =
     ((number : ℕ) × (bytes : List ℕ) × (text ≡ piece_text number bytes)) ⊎ (((number : ℕ) × (count : ℕ) × (text ≡ grant_text number count))
-    ⊎ (((number : ℕ) × (part : Bool) × (count : ℕ) × (text ≡ wait_text number part count)) ⊎ ((text ≡ codes "more\n") ⊎ (text ≡ codes "touched\n"))))
+    ⊎ (((number : ℕ) × (part : Bool) × (count : ℕ) × (text ≡ wait_text number part count)) ⊎ (((number : ℕ) × (text ≡ known_text number))
+    ⊎ ((text ≡ codes "more\n") ⊎ (text ≡ codes "touched\n")))))
 
 -- a front of one frame was written
 abbrev pub BreaksOff : Option (List ℕ) → Option (List ℕ) → Type 0

@@ -1,9 +1,11 @@
 pub mod Clients
+pub mod Closing
 pub mod ConnectionEvents
 pub mod FrameSteps
 pub mod Frames
 pub mod Gate
 pub mod Gathered
 pub mod Laws
+pub mod Logging
 pub mod Private
 pub mod TurnRuns

@@ -11,8 +11,8 @@ use Rattle.http_frames.specs.declared.frames.Head.TheVariants as head
 use Rattle.http_frames.specs.declared.serving.End.{End}
 use Rattle.http_frames.specs.declared.serving.End.TheVariants.{Whole, Wrong, Cut}
 use Rattle.http_frames.specs.Clients.{Has, count_begun, config_of, window_of, queue_of}
-use Rattle.http_frames.specs.ConnectionEvents.{Event, Came, Rejected, Took, Gone, Answered, Clock, Free, From, Users, Nothing, Touched, Going, IsNumber, IsOut, account, awaits, closing, event_text}
-use Rattle.http_frames.specs.Frames.{BreaksOff, IsFrame, TellsAddress, IsPart, IsPiece, TellsUsers, Says}
+use Rattle.http_frames.specs.ConnectionEvents.{Event, Came, Rejected, Took, Gone, Answered, Clock, Free, From, Users, Late, Turned, Nothing, Touched, Going, IsNumber, IsOut, account, awaits, closing, event_text}
+use Rattle.http_frames.specs.Frames.{BreaksOff, IsFrame, TellsAddress, IsPart, IsPiece, TellsTurned, TellsUsers, Says}
 use Rattle.http_frames.specs.Gate.{TakesTurn}
 
 -- ---- what the events say of the queue, of the windows, of the output and of the input
@@ -47,6 +47,8 @@ IsSaid (Clock moment) text = Says (head.Clock moment) text
 IsSaid (Free count) text = Says (head.Free count) text
 IsSaid (From number address) text = TellsAddress number address text
 IsSaid (Users file) text = TellsUsers file text
+IsSaid (Late number) text = Says (head.Late number) text
+IsSaid (Turned address count) text = TellsTurned address count text
 IsSaid Nothing text = Says head.Nothing text
 IsSaid Touched text = Says head.Touch text
 IsSaid _ text = text ≡ []
@@ -127,6 +129,8 @@ IsWrong count events (Some (head.Clock moment)) = ⊥
 IsWrong count events (Some (head.Free bytes)) = ⊥
 IsWrong count events (Some (head.From number)) = number ≢ count + 1
 IsWrong count events (Some (head.Users length)) = ⊥
+IsWrong count events (Some (head.Late number)) = ¬ (IsNumber count number)
+IsWrong count events (Some (head.Turned connections)) = ⊥
 IsWrong count events (Some head.Nothing) = awaits events ≡ false
 IsWrong count events (Some head.Touch) = ⊥
 IsWrong count events (Some head.Go) = Unit {0}

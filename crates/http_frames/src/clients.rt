@@ -5,10 +5,11 @@ ghost use Rattle.http_frames.specs.ConnectionEvents.{Asked, Closed, Ended, From,
 ghost use Rattle.http_frames.specs.Clients.{Adds, GivesTurn, Has, IsStill, Joins, SameSettings, StaysSo, Takes, TellsNext, asked_of, count_begun, closed_window, config_of, held_at, queue_of, window_of};
 ghost use Rattle.http_frames.specs.Frames.{BreaksOff, piece_text};
 ghost use Rattle.http_frames.specs.Gate.{BeginsWithin};
+ghost use Rattle.http_frames.specs.Logging.{LearnsUserOf, LogsTurnOf, address_at};
 ghost use Rattle.http_frames.specs.Private.Steps.{LooksAlike, BeginsFresh, HearsAt, QuitsAt};
 
 use crate::frames::{LONGEST_ADDRESS, write_more, write_piece};
-use crate::gate::{OneCall, TurnService};
+use crate::gate::{AccessLog, OneCall, TurnService};
 use crate::held::{Held, Said, hear, rests_with_room, room_for_requests, speak, step};
 use crate::table::{forget, place};
 use arrayvec::ArrayVec;
@@ -204,11 +205,16 @@ impl Clients {
 
     /// Gives one turn, to the first of the queue, and tells whose it was; none where nobody waits for one. The service is told whose turn comes, and one call of it is made at most; where an
     /// answer waits, neither is. The answer waits until it is handed out.
-    pub fn answer<S: TurnService>(&mut self, service: &mut OneCall<S>) -> Option<u64>
+    pub fn answer<S: TurnService, L: AccessLog>(
+        &mut self,
+        service: &mut OneCall<S, L>,
+    ) -> Option<u64>
         ensures first { IfSome result (λ number. queue_of self.old ≡ number ∷ queue_of self.new) }
         ensures none { result ≡ None → (queue_of self.old ≡ []) × (queue_of self.new ≡ []) × (service.new ≡ service.old) × StaysSo self.old self.new }
         ensures turn { IfSome result (λ number. GivesTurn (BeginsWithin S.begins S.room service.old.room) S.answers number self.old self.new service.old.service service.new.service) }
         ensures settings { SameSettings self.old self.new }
+        ensures user { IfSome result (λ number. LearnsUserOf (S.user service.new.service) (held_at self.old number) (held_at self.new number)) }
+        ensures log { IfSome result (λ number. LogsTurnOf L.begins L.answered L.refused L.lost (S.user service.new.service) (held_at self.old number) (held_at self.new number) service.old.log service.new.log) }
     {
         let number = self.queue.pop_front()?;
         self.turns = self.turns.saturating_add(1);
@@ -224,7 +230,7 @@ impl Clients {
     }
 
     /// Writes the next frame to a connection: the next piece of its answers that wait, as far as its window goes; or a frame without bytes, where it is done and nothing waits, and forgets
-    /// it; or how much more its client may send, where less than half of that is left; or that it waits for its client, where that is new. It is ended where there is no memory for its place
+    /// it; or how much more its client may send, where less than half of that is left; or that a user was let in, or that it waits for its client, where that is new. It is ended where there is no memory for its place
     /// in the queue. False, and nothing is written, where nothing is to be said. `Io` where the output fails (own).
     pub fn hand_out<O: Write>(&mut self, number: u64, output: &mut O) -> Result<bool, Fault>
         ensures told { result ≡ Ok true → TellsNext number self.old self.new (O.contents output.old) (O.contents output.new) }
@@ -432,6 +438,20 @@ impl Clients {
         }
     }
 
+    /// The address of the client of a connection; no bytes where none was told, or the connection goes on no more. None where it has not begun.
+    pub fn address_of(&self, number: u64) -> Option<&[u8]>
+        ensures order { IsSome result ↔ IsNumber (count_begun self.now) number }
+        ensures address { IfSome result (λ address. address.now ≡ address_at self.now number) }
+    {
+        if !self.has_begun(number) {
+            return None;
+        }
+        match self.connections.get(&number) {
+            Some(held) => Some(held.address.as_slice()),
+            None => Some(&[]),
+        }
+    }
+
     /// Whether the answer to `more` is to come.
     pub fn is_asked(&self) -> bool
         ensures { result ≡ asked_of self.now }
@@ -515,6 +535,8 @@ impl Clients {
             queued: false,
             part: false,
             news: false,
+            known: false,
+            told: false,
             round: 0,
             called: 0,
             last: self.frames,

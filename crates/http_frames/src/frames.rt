@@ -3,9 +3,9 @@ ghost use Rattle.std.specs.Prelude.{◌≡◌, ◌≢◌, ◌==◌, ◌≤◌, A
 ghost use Rattle.std.specs.Io.KnownBytes.{Appends, Consumes, IsAtEnd, Keeps};
 ghost use Rattle.http_frames.specs.Frames.{AppendsFront, BreaksOff, IsFrame, IsPart, bytes_at_hand, unread};
 ghost use Rattle.http_frames.specs.Frames.{address_in, clock_in, free_in, from_in, frame_bytes, gone_in, head, head_of, is_address, is_address_byte, one_word};
-ghost use Rattle.http_frames.specs.Frames.{is_single_space, more_in, piece_in, taken_in, users_head};
-ghost use Rattle.http_frames.specs.Frames.{grant_text, piece_text, wait_text};
-ghost use Rattle.std.specs.List.{after_first, list_all};
+ghost use Rattle.http_frames.specs.Frames.{is_single_space, late_in, more_in, piece_in, second_word, taken_in, told_head_of, turned_in, users_head};
+ghost use Rattle.http_frames.specs.Frames.{grant_text, known_text, piece_text, wait_text};
+ghost use Rattle.std.specs.List.{after_first, before_first, list_all};
 ghost use Rattle.line_streams.specs.Numerals.{numeral};
 
 use arrayvec::ArrayString;
@@ -66,6 +66,10 @@ pub enum Head {
         /// How many bytes.
         length: u64,
     },
+    /// The client of a connection was closed since it was too slow.
+    Late(u64),
+    /// So many connections from the address that the line tells had no place.
+    Turned(u64),
     /// Nothing more has come.
     Nothing,
     /// May the file of the store still be written?
@@ -79,7 +83,7 @@ pub enum Head {
 pub struct Frame<'a> {
     /// What its first line says; none where that is no head.
     pub head: Option<Head>,
-    /// Its bytes, behind the first line; of `From` the address, which stands in that line.
+    /// Its bytes, behind the first line; of `From` and `Turned` the address, which stands in that line.
     pub bytes: &'a [u8],
     /// How many bytes it has, its first line and the line feed too.
     pub length: usize,
@@ -96,7 +100,7 @@ pub struct Frames<I> {
 
 impl Head {
     /// What a line says, without its end: words with one blank between them, `NUMBER LENGTH`, `taken NUMBER BYTES`, `gone NUMBER`, `clock MOMENT`,
-    /// `free BYTES`, `from NUMBER ADDRESS`, `users LENGTH`, `none`, `touch` or `go`, with numbers in decimal digits. None for any other line, for a length beyond `LARGEST`, and for an address that has not 1 to
+    /// `free BYTES`, `from NUMBER ADDRESS`, `users LENGTH`, `late NUMBER`, `turned ADDRESS COUNT`, `none`, `touch` or `go`, with numbers in decimal digits. None for any other line, for a length beyond `LARGEST`, and for an address that has not 1 to
     /// `LONGEST_ADDRESS` bytes of 33 to 126.
     pub fn of(line: &[u8]) -> Option<Head>
         ensures { result ≡ head line.now }
@@ -144,8 +148,21 @@ fn by_word(word: &str, rest: &str) -> Option<Head>
     if word == "from" {
         return from_of(rest);
     }
+    told_of(word, rest)
+}
+
+// What a line says of clients that were sent away, or of bytes, by its first word and what stands behind it.
+fn told_of(word: &str, rest: &str) -> Option<Head>
+    ensures { result ≡ told_head_of word.now rest.now }
+{
     if word == "users" {
         return users_of(rest);
+    }
+    if word == "late" {
+        return late_of(rest);
+    }
+    if word == "turned" {
+        return turned_of(rest);
     }
     piece_of(word, rest)
 }
@@ -222,6 +239,25 @@ fn users_of(rest: &str) -> Option<Head>
     Some(Head::Users { length })
 }
 
+// What `late NUMBER` says, by what stands behind its first word.
+fn late_of(rest: &str) -> Option<Head>
+    ensures { result ≡ late_in (numeral rest.now) }
+{
+    Some(Head::Late(number(rest)?))
+}
+
+// What `turned ADDRESS COUNT` says, by what stands behind its first word.
+fn turned_of(rest: &str) -> Option<Head>
+    ensures { result ≡ turned_in rest.now }
+{
+    let (address, word) = rest.split_once(' ')?;
+    let count = number(word)?;
+    if !is_address(address.as_bytes()) {
+        return None;
+    }
+    Some(Head::Turned(count))
+}
+
 // What `NUMBER LENGTH` says.
 fn piece_of(word: &str, rest: &str) -> Option<Head>
     ensures { result ≡ piece_in (numeral word.now) (numeral rest.now) }
@@ -269,6 +305,7 @@ fn given_of<'a>(head: Option<Head>, line: &'a [u8], behind: &'a [u8]) -> &'a [u8
 {
     match head {
         Some(Head::From(_)) => address_of(line),
+        Some(Head::Turned(_)) => second_of(line),
         _ => behind,
     }
 }
@@ -278,6 +315,23 @@ fn address_of(line: &[u8]) -> &[u8]
     ensures { result.now ≡ address_in line.now }
 {
     behind_blank(behind_blank(line))
+}
+
+// What stands between the first two blanks.
+fn second_of(line: &[u8]) -> &[u8]
+    ensures { result.now ≡ second_word line.now }
+{
+    before_blank(behind_blank(line))
+}
+
+// What stands before the first blank.
+fn before_blank(line: &[u8]) -> &[u8]
+    ensures { result.now ≡ before_first is_single_space line.now }
+{
+    match memchr(b' ', line) {
+        Some(at) => &line[..at],
+        None => line,
+    }
 }
 
 // What stands behind the first blank.
@@ -432,6 +486,18 @@ pub fn write_wait<O: Write>(
     let word = if part { "owes" } else { "rests" };
     let mut line = ArrayString::<LINE>::new();
     if write!(line, "{} {} {}\n", word, number, count).is_err() {
+        return Err(Fault::Io);
+    }
+    write_front(line.as_str().as_bytes(), output)
+}
+
+/// Writes that a user was let in on a connection, as `write_piece` writes.
+pub fn write_known<O: Write>(number: u64, output: &mut O) -> Result<(), Fault>
+    ensures ok { OnOk result (Appends (O.contents output.old) (O.contents output.new) (known_text number)) }
+    ensures err { OnErr result (BreaksOff (O.contents output.old) (O.contents output.new)) }
+{
+    let mut line = ArrayString::<LINE>::new();
+    if write!(line, "known {}\n", number).is_err() {
         return Err(Fault::Io);
     }
     write_front(line.as_str().as_bytes(), output)

@@ -5,20 +5,20 @@ ghost use Rattle.http_server.specs.History.{IsDone};
 ghost use Rattle.http_frames.specs.Clients.{HearsMore, IsFull, IsHeldBack, Joins, history_of};
 ghost use Rattle.http_frames.specs.Frames.{BreaksOff};
 ghost use Rattle.http_frames.specs.Gate.{BeginsWithin};
-ghost use Rattle.http_frames.specs.Private.Steps.{GrantsMore, Hears, IsDeaf, StandsInQueue, JoinsFresh, Reads, Speaks, Sends, Settles, Steps, TellsWait, Waits, WritesOutput};
+ghost use Rattle.http_frames.specs.Logging.{LearnsUser, LogsTurn};
+ghost use Rattle.http_frames.specs.Private.Steps.{GrantsMore, Hears, IsDeaf, LearnsByCall, StandsInQueue, JoinsFresh, Reads, Speaks, Sends, Settles, Steps, TellsKnown, TellsWait, Waits, WritesOutput};
 
 use crate::clients::Windows;
-use crate::frames::{LONGEST_ADDRESS, write_grant, write_piece, write_wait};
-use crate::gate::{OneCall, TurnService};
+use crate::closing::LONG;
+use crate::frames::{LONGEST_ADDRESS, write_grant, write_known, write_piece, write_wait};
+use crate::gate::{AccessLog, OneCall, TurnService};
+use crate::logging::log_end;
 use crate::waiting::has_unread;
 use arrayvec::ArrayVec;
 use http_server::{Connection, State};
 use line_streams::Fault;
 use std::collections::VecDeque;
 use std::io::Write;
-
-// The room of a request with so many bytes is not counted once it was called.
-const LONG: u64 = 512 * 1024;
 
 /// A connection that goes on.
 #[derive(Drop)]
@@ -40,6 +40,9 @@ pub(crate) struct Held {
     pub(crate) part: bool,
     /// Whether it waits for its client, and that is to be told.
     pub(crate) news: bool,
+    /// Whether a user was let in on it, and whether that was told.
+    pub(crate) known: bool,
+    pub(crate) told: bool,
     /// How often the input had been read at its last turn.
     pub(crate) round: u64,
     /// How many bytes had been received at its last call, and which of all frames brought the last of them.
@@ -134,17 +137,35 @@ fn read_all(connection: &mut Connection, rest: &mut &[u8]) -> Result<(), Fault>
 }
 
 /// One step of a connection, unless an answer of it waits. How many bytes that nobody shares it made.
-pub(crate) fn step<S: TurnService>(held: &mut Held, number: u64, service: &mut OneCall<S>) -> u64
-    ensures { Steps (BeginsWithin S.begins S.room service.old.room) S.answers number held.old held.new service.old.service service.new.service }
+pub(crate) fn step<S: TurnService, L: AccessLog>(
+    held: &mut Held,
+    number: u64,
+    service: &mut OneCall<S, L>,
+) -> u64
+    ensures steps { Steps (BeginsWithin S.begins S.room service.old.room) S.answers number held.old held.new service.old.service service.new.service }
+    ensures user { LearnsUser (S.user service.new.service) held.old held.new }
+    ensures log { LogsTurn L.begins L.answered L.refused L.lost (S.user service.new.service) held.old held.new service.old.log service.new.log }
 {
     held.queued = false;
     if held.connection.wants_write() {
         return 0;
     }
+    let before = held.connection.state();
     service.open(number, held.address.as_slice());
     held.connection.advance(service);
+    log_end(before, held.connection.state(), &mut service.log);
     settle(held, service.spent, service.own);
+    learn_user(held, service.spent, service.service.user());
     service.own
+}
+
+// A user was let in, where a call was answered as one's.
+fn learn_user(held: &mut Held, called: bool, user: &[u8])
+    ensures { LearnsByCall called user.now held.old held.new }
+{
+    if called && !user.is_empty() {
+        held.known = true;
+    }
 }
 
 // What a turn leaves to be told and granted, and whether a part of the next request has come.
@@ -166,7 +187,7 @@ fn settle(held: &mut Held, called: bool, own: u64)
 /// How many bytes of requests the connection holds, or keeps room for, once so many more have come. The room of its longest request is kept while it lasts.
 pub(crate) fn room_for_requests(held: &Held, more: u64) -> u64 {
     let unanswered = held.heard.saturating_sub(held.called).saturating_add(more);
-    if held.longest > LONG {
+    if held.longest > LONG as u64 {
         unanswered.max(held.longest)
     } else {
         unanswered
@@ -175,7 +196,7 @@ pub(crate) fn room_for_requests(held: &Held, more: u64) -> u64 {
 
 /// Whether it waits for its client, with no part of a request, and keeps the room of a long one.
 pub(crate) fn rests_with_room(held: &Held) -> bool {
-    held.longest > LONG
+    held.longest > LONG as u64
         && held.heard == held.called
         && !held.queued
         && waits_for_input(&held.connection)
@@ -225,6 +246,10 @@ pub(crate) fn speak<O: Write>(
         grant(held, number, output)?;
         return Ok(Said::Something);
     }
+    if held.known && !held.told {
+        tell_known(held, number, output)?;
+        return Ok(Said::Something);
+    }
     if held.news {
         tell_wait(held, number, output)?;
         return Ok(Said::Something);
@@ -241,6 +266,18 @@ fn grant<O: Write>(held: &mut Held, number: u64, output: &mut O) -> Result<(), F
     write_grant(number, held.due, output)?;
     held.behind = held.behind.saturating_sub(held.due);
     held.due = 0;
+    Ok(())
+}
+
+// Writes that a user was let in on the connection.
+fn tell_known<O: Write>(held: &mut Held, number: u64, output: &mut O) -> Result<(), Fault>
+    requires { IsTrue held.old.known × IsFalse held.old.told }
+    ensures tells { OnOk result (TellsKnown number held.old held.new (O.contents output.old) (O.contents output.new)) }
+    ensures stays { OnErr result (held.new ≡ held.old) }
+    ensures breaks { OnErr result (BreaksOff (O.contents output.old) (O.contents output.new)) }
+{
+    write_known(number, output)?;
+    held.told = true;
     Ok(())
 }
 

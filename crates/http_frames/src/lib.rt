@@ -2,11 +2,13 @@
 #![tactic(auto)]
 
 pub mod clients;
+pub mod closing;
 pub mod frames;
 pub mod gate;
 pub mod gathered;
 mod held;
 pub mod laws;
+mod logging;
 pub mod serving;
 mod table;
 mod waiting;

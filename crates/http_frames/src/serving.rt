@@ -4,11 +4,12 @@ ghost use Rattle.http_frames.specs.Clients.{Has, count_begun};
 ghost use Rattle.http_frames.specs.Frames.{IsPart, bytes_at_hand, unread};
 ghost use Rattle.http_frames.specs.TurnRuns.{RunsInTurns, Breaks, BreaksTold, TellsAll, WritesAnswers};
 ghost use Rattle.http_frames.specs.Gate.{free_behind};
+ghost use Rattle.http_frames.specs.Logging.{LogsFrame};
 ghost use Rattle.http_frames.specs.FrameSteps.{BreaksUnturned, GoesOn, ReadsOn, TakesFrame};
 
 use crate::clients::Clients;
 use crate::frames::{Frames, Head, write_touched};
-use crate::gate::{OneCall, TurnService};
+use crate::gate::{AccessLog, OneCall, TurnService};
 use line_streams::Fault;
 use std::io::{Read, Write};
 
@@ -29,9 +30,9 @@ pub enum End {
 
 /// Serves the connections that the frames of the input are of, until the input ends or a frame is wrong; then it answers all that came before, and hands it out as far as the windows
 /// go, which the end of the input opens. What is written is written out before it waits for the input. `Io` where a stream fails; `OutOfMemory` where there is no memory outside a connection.
-pub fn serve<S: TurnService, I: Read, O: Write>(
+pub fn serve<S: TurnService, L: AccessLog, I: Read, O: Write>(
     clients: &mut Clients,
-    service: &mut OneCall<S>,
+    service: &mut OneCall<S, L>,
     frames: &mut Frames<I>,
     output: &mut O,
 ) -> Result<End, Fault>
@@ -50,9 +51,9 @@ pub fn serve<S: TurnService, I: Read, O: Write>(
 }
 
 // Takes a frame that is at hand; or gives a turn; or asks what else has come, and reads on. Whether that is the end.
-fn go_on<S: TurnService, I: Read, O: Write>(
+fn go_on<S: TurnService, L: AccessLog, I: Read, O: Write>(
     clients: &mut Clients,
-    service: &mut OneCall<S>,
+    service: &mut OneCall<S, L>,
     frames: &mut Frames<I>,
     output: &mut O,
 ) -> Result<Option<End>, Fault>
@@ -76,9 +77,9 @@ fn go_on<S: TurnService, I: Read, O: Write>(
 }
 
 // Gives a turn, where one may be given; or asks what else has come, unless that was asked. Whether a turn was given.
-fn turn_or_ask<S: TurnService, O: Write>(
+fn turn_or_ask<S: TurnService, L: AccessLog, O: Write>(
     clients: &mut Clients,
-    service: &mut OneCall<S>,
+    service: &mut OneCall<S, L>,
     output: &mut O,
 ) -> Result<bool, Fault>
     ensures ok { OnOk result (WritesAnswers S.begins S.answers S.clocked S.listed clients.old clients.new service.old.service service.new.service (O.contents output.old) (O.contents output.new)) }
@@ -94,9 +95,9 @@ fn turn_or_ask<S: TurnService, O: Write>(
 }
 
 // Gives one turn, and writes out what was made where enough of it waits, so that clients go on while others have their turns. Whether somebody waited for one.
-fn give_turn_on<S: TurnService, O: Write>(
+fn give_turn_on<S: TurnService, L: AccessLog, O: Write>(
     clients: &mut Clients,
-    service: &mut OneCall<S>,
+    service: &mut OneCall<S, L>,
     output: &mut O,
 ) -> Result<bool, Fault>
     ensures ok { OnOk result (WritesAnswers S.begins S.answers S.clocked S.listed clients.old clients.new service.old.service service.new.service (O.contents output.old) (O.contents output.new)) }
@@ -110,9 +111,9 @@ fn give_turn_on<S: TurnService, O: Write>(
 }
 
 /// Takes what a frame says; false, and nothing is done, where it is wrong. `Io` where the output fails (own).
-pub fn take_frame<S: TurnService, O: Write>(
+pub fn take_frame<S: TurnService, L: AccessLog, O: Write>(
     clients: &mut Clients,
-    service: &mut OneCall<S>,
+    service: &mut OneCall<S, L>,
     head: Option<Head>,
     bytes: &[u8],
     output: &mut O,
@@ -120,6 +121,8 @@ pub fn take_frame<S: TurnService, O: Write>(
     ensures ok { IfOk result (λ right. TakesFrame S.begins S.answers S.clocked S.listed right head bytes.now clients.old clients.new service.old.service service.new.service (O.contents output.old) (O.contents output.new)) }
     ensures err { OnErr result (BreaksUnturned S.begins S.answers S.clocked S.listed clients.old clients.new service.old.service service.new.service (O.contents output.old) (O.contents output.new)) }
     ensures free { service.new.free ≡ free_behind head service.old.free }
+    ensures log { IfOk result (λ right. LogsFrame L.late L.turned clients.old right head bytes.now service.old.log service.new.log) }
+    ensures unlogged { OnErr result (service.new.log ≡ service.old.log) }
 {
     match head {
         None => Ok(false),
@@ -144,6 +147,17 @@ pub fn take_frame<S: TurnService, O: Write>(
             service.free = Some(bytes);
             Ok(true)
         }
+        Some(Head::Late(number)) => {
+            let Some(address) = clients.address_of(number) else {
+                return Ok(false);
+            };
+            service.log.late(address);
+            Ok(true)
+        }
+        Some(Head::Turned(count)) => {
+            service.log.turned(bytes, count);
+            Ok(true)
+        }
         Some(Head::Taken { number, count }) => {
             if !clients.taken(number, count) {
                 return Ok(false);
@@ -155,9 +169,9 @@ pub fn take_frame<S: TurnService, O: Write>(
 }
 
 // Gives one turn, and hands out what it made; whether somebody waited for one.
-fn give_turn<S: TurnService, O: Write>(
+fn give_turn<S: TurnService, L: AccessLog, O: Write>(
     clients: &mut Clients,
-    service: &mut OneCall<S>,
+    service: &mut OneCall<S, L>,
     output: &mut O,
 ) -> Result<bool, Fault>
     ensures ok { OnOk result (WritesAnswers S.begins S.answers S.clocked S.listed clients.old clients.new service.old.service service.new.service (O.contents output.old) (O.contents output.new)) }
@@ -189,9 +203,9 @@ pub fn read_on<I: Read>(clients: &mut Clients, frames: &mut Frames<I>) -> Result
 }
 
 // Hands out what waits, and gives turns until nobody waits for one.
-fn finish<S: TurnService, O: Write>(
+fn finish<S: TurnService, L: AccessLog, O: Write>(
     clients: &mut Clients,
-    service: &mut OneCall<S>,
+    service: &mut OneCall<S, L>,
     output: &mut O,
 ) -> Result<(), Fault>
     ensures ok { OnOk result (WritesAnswers S.begins S.answers S.clocked S.listed clients.old clients.new service.old.service service.new.service (O.contents output.old) (O.contents output.new)) }

@@ -16,7 +16,7 @@ use crate::rounds::{BYTES, give_turn, set_room};
 use crate::touching::touch_for;
 use http_frames::clients::Clients;
 use http_frames::frames::{Frames, Head};
-use http_frames::gate::OneCall;
+use http_frames::gate::{AccessLog, OneCall};
 use http_frames::serving::{End, read_on, take_frame, tell, tell_all};
 use journal_core::{Journal, JournalError, Round};
 use line_streams::Fault;
@@ -30,10 +30,10 @@ use std::io::{Read, Write};
 ///
 /// - `Stream`: the input or the output failed, or there is no memory outside a connection. What waits is lost, as at a crash.
 /// - `Journal`: what was changed could not be kept.
-pub fn serve_late<S: Recording, D: Disk, I: Read, O: Write>(
+pub fn serve_late<S: Recording, L: AccessLog, D: Disk, I: Read, O: Write>(
     alloc: Global,
     clients: &mut Clients,
-    service: &mut OneCall<S>,
+    service: &mut OneCall<S, L>,
     frames: &mut Frames<I>,
     journal: &mut Journal<D, O>,
     output: &mut O,
@@ -64,10 +64,10 @@ pub fn serve_late<S: Recording, D: Disk, I: Read, O: Write>(
 }
 
 // Takes a frame that is at hand; or gives a turn; or asks what else has come, and reads on. Whether that is the end.
-fn go_on<S: Recording, D: Disk, I: Read, O: Write>(
+fn go_on<S: Recording, L: AccessLog, D: Disk, I: Read, O: Write>(
     alloc: Global,
     clients: &mut Clients,
-    service: &mut OneCall<S>,
+    service: &mut OneCall<S, L>,
     frames: &mut Frames<I>,
     journal: &mut Journal<D, O>,
     waiting: &mut Round,
@@ -105,10 +105,10 @@ fn go_on<S: Recording, D: Disk, I: Read, O: Write>(
 }
 
 // Takes what a frame says; before a tick, what waits is kept, and before a touch is told the file is touched. False where the frame is wrong.
-fn take_or_tick<S: Recording, D: Disk, O: Write>(
+fn take_or_tick<S: Recording, L: AccessLog, D: Disk, O: Write>(
     alloc: Global,
     clients: &mut Clients,
-    service: &mut OneCall<S>,
+    service: &mut OneCall<S, L>,
     head: Option<Head>,
     bytes: &[u8],
     journal: &mut Journal<D, O>,
@@ -162,10 +162,10 @@ fn keep<D: Disk, O>(
 }
 
 // Gives a turn, where one may be given; or asks what else has come, unless that was asked. Whether a turn was given.
-fn turn_or_ask<S: Recording, D: Disk, O: Write>(
+fn turn_or_ask<S: Recording, L: AccessLog, D: Disk, O: Write>(
     alloc: Global,
     clients: &mut Clients,
-    service: &mut OneCall<S>,
+    service: &mut OneCall<S, L>,
     journal: &mut Journal<D, O>,
     waiting: &mut Round,
     output: &mut O,
@@ -188,10 +188,10 @@ fn turn_or_ask<S: Recording, D: Disk, O: Write>(
 }
 
 // Gives a turn to the first who waits for one, and hands out its answer; what it changed waits. Whether a turn was given.
-fn answer_next<S: Recording, D: Disk, O: Write>(
+fn answer_next<S: Recording, L: AccessLog, D: Disk, O: Write>(
     alloc: Global,
     clients: &mut Clients,
-    service: &mut OneCall<S>,
+    service: &mut OneCall<S, L>,
     journal: &mut Journal<D, O>,
     waiting: &mut Round,
     output: &mut O,
@@ -214,10 +214,10 @@ fn answer_next<S: Recording, D: Disk, O: Write>(
 }
 
 // Makes room in the journal's file for what waits and for what the next turn may change. Where what waits is long, or the disk is too full for both, what waits is kept first.
-fn make_way<S: Recording, D: Disk, O: Write>(
+fn make_way<S: Recording, L: AccessLog, D: Disk, O: Write>(
     alloc: Global,
     clients: &Clients,
-    service: &mut OneCall<S>,
+    service: &mut OneCall<S, L>,
     journal: &mut Journal<D, O>,
     waiting: &mut Round,
     output: &O,
@@ -240,10 +240,10 @@ fn make_way<S: Recording, D: Disk, O: Write>(
 }
 
 // Keeps what waits, and then makes room for what the next turn may change.
-fn keep_first<S: Recording, D: Disk, O: Write>(
+fn keep_first<S: Recording, L: AccessLog, D: Disk, O: Write>(
     alloc: Global,
     clients: &Clients,
-    service: &mut OneCall<S>,
+    service: &mut OneCall<S, L>,
     journal: &mut Journal<D, O>,
     waiting: &mut Round,
     output: &O,
@@ -261,10 +261,10 @@ fn keep_first<S: Recording, D: Disk, O: Write>(
 }
 
 // Keeps what waits, hands out what the clients wait for, gives turns until nobody waits for one, and keeps what these changed.
-fn finish<S: Recording, D: Disk, O: Write>(
+fn finish<S: Recording, L: AccessLog, D: Disk, O: Write>(
     alloc: Global,
     clients: &mut Clients,
-    service: &mut OneCall<S>,
+    service: &mut OneCall<S, L>,
     journal: &mut Journal<D, O>,
     waiting: &mut Round,
     output: &mut O,

@@ -9,7 +9,7 @@ ghost use Rattle.kept_frames.specs.Rounds.{FailsKept, WritesKept};
 use crate::error::KeptError;
 use crate::recording::Recording;
 use http_frames::clients::Clients;
-use http_frames::gate::OneCall;
+use http_frames::gate::{AccessLog, OneCall};
 use http_frames::serving::tell;
 use journal_core::{Journal, JournalError, Round};
 use line_streams::Fault;
@@ -31,10 +31,10 @@ pub(crate) struct Turned {
 }
 
 /// Gives turns, keeps what they changed, and then hands out what they made. Whether a turn was given.
-pub(crate) fn give_round<S: Recording, D: Disk, O: Write>(
+pub(crate) fn give_round<S: Recording, L: AccessLog, D: Disk, O: Write>(
     alloc: Global,
     clients: &mut Clients,
-    service: &mut OneCall<S>,
+    service: &mut OneCall<S, L>,
     journal: &mut Journal<D, O>,
     output: &mut O,
 ) -> Result<bool, KeptError>
@@ -59,10 +59,10 @@ pub(crate) fn give_round<S: Recording, D: Disk, O: Write>(
 }
 
 // Gives turns to those who wait, as long as it may, and notes what each changed. Before each turn, room is made in the journal's file for what it may change.
-fn give_turns<S: Recording, D: Disk, O: Write>(
+fn give_turns<S: Recording, L: AccessLog, D: Disk, O: Write>(
     alloc: Global,
     clients: &mut Clients,
-    service: &mut OneCall<S>,
+    service: &mut OneCall<S, L>,
     journal: &mut Journal<D, O>,
     output: &O,
 ) -> Result<Turned, KeptError>
@@ -105,9 +105,9 @@ fn add_number(numbers: &mut Vec<u64>, number: u64) -> Result<(), AllocError>
 }
 
 // Makes room in the journal's file for the record of the next turn behind so many bytes of the round, unless the disk was full; and tells the service how much there is. Whether the disk is full.
-pub(crate) fn set_room<S: Recording, D: Disk, O: Write>(
+pub(crate) fn set_room<S: Recording, L: AccessLog, D: Disk, O: Write>(
     clients: &Clients,
-    service: &mut OneCall<S>,
+    service: &mut OneCall<S, L>,
     journal: &mut Journal<D, O>,
     output: &O,
     held: usize,
@@ -158,9 +158,9 @@ fn is_full(round: &Round, made: u64) -> bool {
 }
 
 // Gives a turn to the first who waits for one, and notes what it changed; none where nobody waits.
-pub(crate) fn give_turn<S: Recording>(
+pub(crate) fn give_turn<S: Recording, L: AccessLog>(
     clients: &mut Clients,
-    service: &mut OneCall<S>,
+    service: &mut OneCall<S, L>,
     round: &mut Round,
 ) -> Result<Option<u64>, AllocError>
     ensures ok { IfOk result (λ number. NotesMore S.begins S.answers S.clocked S.listed S.stands (option_to_list number) clients.old clients.new service.old.service service.new.service round.old round.new) }

@@ -14,7 +14,7 @@ use crate::rounds::give_round;
 use crate::touching::touch_for;
 use http_frames::clients::Clients;
 use http_frames::frames::{Frames, Head};
-use http_frames::gate::OneCall;
+use http_frames::gate::{AccessLog, OneCall};
 use http_frames::serving::{End, read_on, take_frame, tell_all};
 use journal_core::Journal;
 use line_streams::Fault;
@@ -27,10 +27,10 @@ use std::io::{Read, Write};
 ///
 /// - `Stream`: the input or the output failed, or there is no memory outside a connection.
 /// - `Journal`: what was changed could not be kept; nothing that tells of it was handed out.
-pub fn serve_kept<S: Recording, D: Disk, I: Read, O: Write>(
+pub fn serve_kept<S: Recording, L: AccessLog, D: Disk, I: Read, O: Write>(
     alloc: Global,
     clients: &mut Clients,
-    service: &mut OneCall<S>,
+    service: &mut OneCall<S, L>,
     frames: &mut Frames<I>,
     journal: &mut Journal<D, O>,
     output: &mut O,
@@ -52,10 +52,10 @@ pub fn serve_kept<S: Recording, D: Disk, I: Read, O: Write>(
 }
 
 // Takes a frame that is at hand; or gives a round of turns; or asks what else has come, and reads on. Whether that is the end.
-fn go_on<S: Recording, D: Disk, I: Read, O: Write>(
+fn go_on<S: Recording, L: AccessLog, D: Disk, I: Read, O: Write>(
     alloc: Global,
     clients: &mut Clients,
-    service: &mut OneCall<S>,
+    service: &mut OneCall<S, L>,
     frames: &mut Frames<I>,
     journal: &mut Journal<D, O>,
     output: &mut O,
@@ -83,9 +83,9 @@ fn go_on<S: Recording, D: Disk, I: Read, O: Write>(
 }
 
 // Takes what a frame says; before a touch is told the file is touched. False where the frame is wrong.
-fn take_next<S: Recording, D: Disk, O: Write>(
+fn take_next<S: Recording, L: AccessLog, D: Disk, O: Write>(
     clients: &mut Clients,
-    service: &mut OneCall<S>,
+    service: &mut OneCall<S, L>,
     head: Option<Head>,
     bytes: &[u8],
     journal: &mut Journal<D, O>,
@@ -107,10 +107,10 @@ fn take_next<S: Recording, D: Disk, O: Write>(
 }
 
 // Gives a round of turns, where one may be given; or asks what else has come, unless that was asked. Whether a turn was given.
-fn round_or_ask<S: Recording, D: Disk, O: Write>(
+fn round_or_ask<S: Recording, L: AccessLog, D: Disk, O: Write>(
     alloc: Global,
     clients: &mut Clients,
-    service: &mut OneCall<S>,
+    service: &mut OneCall<S, L>,
     journal: &mut Journal<D, O>,
     output: &mut O,
 ) -> Result<bool, KeptError>
@@ -132,10 +132,10 @@ fn round_or_ask<S: Recording, D: Disk, O: Write>(
 }
 
 // Hands out what waits, and gives rounds of turns until nobody waits for one.
-fn finish<S: Recording, D: Disk, O: Write>(
+fn finish<S: Recording, L: AccessLog, D: Disk, O: Write>(
     alloc: Global,
     clients: &mut Clients,
-    service: &mut OneCall<S>,
+    service: &mut OneCall<S, L>,
     journal: &mut Journal<D, O>,
     output: &mut O,
 ) -> Result<(), KeptError>

@@ -1,5 +1,5 @@
 //! What is chosen of a server, made of it.
-use crate::fronts::{Fronts, Logging};
+use crate::fronts::Fronts;
 use crate::limits::Limits;
 use crate::log::LogFile;
 use crate::logins::{USER, read_users, tell_of_nobody, told_users};
@@ -11,10 +11,11 @@ use dav_users_core::Users;
 use http_frames::frames::Frames;
 use http_header::HeaderName;
 use line_streams::Fault;
-use server_choices::Choices;
+use server_choices::{Choices, LogFormat};
 use std::alloc::AllocError;
 use std::io::Read;
 use std::mem;
+use turn_fronts::{Format, Notes};
 
 /// What the server tells. Where users log in, it is told by a field of its own who did.
 pub(crate) fn chosen_settings(rt: &HostRuntime, choices: &mut Choices) -> Settings {
@@ -61,6 +62,7 @@ pub(crate) fn chosen_fronts<'a, I: Read>(
         read_only: choices.read_only,
         users: None,
         realm: mem::replace(&mut choices.realm, String::new(rt.alloc())),
+        user_header: None,
         address_header: None,
         log: None,
     };
@@ -78,6 +80,7 @@ fn set_fronts<'a, I: Read>(
     if let Some(users) = &fronts.users {
         tell_of_nobody(rt, users);
     }
+    fronts.user_header = chosen_user_header(choices)?;
     fronts.log = chosen_log(rt, choices)?;
     fronts.address_header = choices.address_header.take();
     Ok(())
@@ -97,24 +100,37 @@ fn chosen_users<I: Read>(
     }
 }
 
-// Where users log in no header is chosen that names them, and the log has the name that a request logs in with.
+// Where users log in, a header of the server's own names them, and no other is chosen.
+fn chosen_user_header(choices: &Choices) -> Result<Option<HeaderName>, AllocError> {
+    if choices.logs_in() {
+        return Ok(Some(HeaderName::from_static(USER)));
+    }
+    copied(&choices.user_header)
+}
+
 fn chosen_log<'a>(
     rt: &'a HostRuntime,
     choices: &mut Choices,
-) -> Result<Option<Logging<'a>>, Stopped> {
+) -> Result<Option<Notes<LogFile<'a>>>, Stopped> {
     let Some(name) = choices.log.take() else {
         return Ok(None);
     };
     let file = LogFile::open(rt, name, choices.clock)?;
-    Ok(Some(logging_to(file, choices)?))
+    let address_header = copied(&choices.address_header)?;
+    Ok(Some(Notes::new(
+        rt.alloc(),
+        file,
+        format_of(choices.log_format),
+        address_header,
+    )))
 }
 
-fn logging_to<'a>(file: LogFile<'a>, choices: &Choices) -> Result<Logging<'a>, AllocError> {
-    Ok(Logging {
-        user_header: copied(&choices.user_header)?,
-        address_header: copied(&choices.address_header)?,
-        file,
-    })
+fn format_of(chosen: LogFormat) -> Format {
+    match chosen {
+        LogFormat::Common => Format::Common,
+        LogFormat::Combined => Format::Combined,
+        LogFormat::Json => Format::Json,
+    }
 }
 
 fn copied(name: &Option<HeaderName>) -> Result<Option<HeaderName>, AllocError> {

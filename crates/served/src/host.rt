@@ -1,4 +1,6 @@
 //! What a login knows of the system.
+ghost use Rattle.std.specs.Prelude.{◌≡◌};
+
 use crate::clock::Stopwatch;
 use dav_login_core::Host;
 use dav_users_core::UsersError;
@@ -22,7 +24,9 @@ impl<'a> System<'a> {
 }
 
 impl Host for System<'_> {
-    fn now(&mut self) -> u64 {
+    ghost told = { λ old _ new. new ≡ old };
+
+    fn now(&self) -> u64 {
         self.stopwatch.passed()
     }
 

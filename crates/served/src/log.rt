@@ -1,9 +1,15 @@
 //! The log of requests, in a file or on standard error.
+ghost use Rattle.std.specs.Prelude.{⊤};
+
 use crate::clock::{Stopwatch, first_moment};
 use crate::stopped::Stopped;
 use std::fs::OpenOptions;
 use std::io::{self, Write};
+use std::os::unix::fs::OpenOptionsExt;
 use turn_fronts::Log;
+
+// Its owner reads and writes the log, and the group reads it.
+const MODE: u32 = 0o640;
 
 /// Takes the lines of the log (own). The file is opened for each line, so that it may be moved away at any moment; what cannot be written is counted, and told on standard error once a line could be
 /// written again.
@@ -49,6 +55,7 @@ impl<'a> LogFile<'a> {
                 let mut file = OpenOptions::new()
                     .append(true)
                     .create(true)
+                    .mode(MODE)
                     .open(self.rt, path.as_str())?;
                 file.write_all(line)
             }
@@ -67,15 +74,20 @@ impl<'a> LogFile<'a> {
     }
 }
 
+// A line can't be looked at once it was written, so nothing is said of what was.
 impl Log for LogFile<'_> {
-    fn moment(&mut self) -> u64 {
+    ghost takes = { λ _ _ _. ⊤ };
+
+    ghost loses = { λ _ _. ⊤ };
+
+    fn moment(&self) -> u64 {
         match first_moment(self.rt, self.clock) {
             Ok(moment) => moment.0,
             Err(_) => 0,
         }
     }
 
-    fn now(&mut self) -> u64 {
+    fn now(&self) -> u64 {
         self.stopwatch.passed()
     }
 

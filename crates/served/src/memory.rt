@@ -7,7 +7,7 @@ use crate::turns::serve_behind;
 use dav_guarded_core::guarded::Guarded;
 use dav_handler_core::dav::{Dav, Settings};
 use dav_handler_core::serving::{Clock, Timed, serve_frames, serve_one};
-use http_frames::gate::OneCall;
+use http_frames::gate::{AccessLog, OneCall};
 use http_frames::serving::End;
 use http_server::{Config, Connection};
 use line_streams::Fault;
@@ -32,7 +32,7 @@ pub(crate) fn serve_in_memory<R: Rng + Drop, C: Clock + Drop, I: Read, O: Write>
     let dav = server(rt, began, settings, rng)?;
     let server = Timed { dav, clock };
     if fronts.is_none() {
-        return Ok(serve_all(streams, server)?);
+        return Ok(serve_all(streams, server, fronts.take_log())?);
     }
     if fronts.read_only {
         return serve_behind(rt, fronts, streams, ReadOnly::new(server));
@@ -81,11 +81,12 @@ fn server<R: Rng + Drop>(
 }
 
 // Serves the connections that the frames are of. What is proved of it stands on `serve_frames`.
-fn serve_all<R: Rng + Drop, C: Clock + Drop, I: Read, O: Write>(
+fn serve_all<R: Rng + Drop, C: Clock + Drop, L: AccessLog + Drop, I: Read, O: Write>(
     streams: &mut Streams<I, O>,
     server: Timed<R, C>,
+    log: L,
 ) -> Result<End, Fault> {
-    let mut server = OneCall::new(server);
+    let mut server = OneCall::new(server, log);
     streams.tell_ready()?;
     let Streams {
         clients,

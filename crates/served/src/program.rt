@@ -34,7 +34,7 @@ const LOST: &str =
 
 // The words that the program takes.
 const USAGE: &str =
-    "usage: davserve [--help] [--one|--login] [--read-only] [--scheme http|https] [--prefix PATH] [--user-header NAME] [--address-header NAME] [--longest-timeout SECONDS] [--propfind-depth finite|infinite] [--max-body BYTES] [--window BYTES] [--waiting BYTES] [--unfinished BYTES] [--store FILE] [--existing] [--began NANOSECONDS] [--lease SECONDS] [--sync always|second] [--compact-over BYTES] [--compact-useless PERCENT] [--users FILE] [--realm TEXT] [--log FILE] [--seed NUMBER] [--clock NANOSECONDS|frames]\n";
+    "usage: davserve [--help] [--one|--login] [--read-only] [--scheme http|https] [--prefix PATH] [--user-header NAME] [--address-header NAME] [--longest-timeout SECONDS] [--propfind-depth finite|infinite] [--max-body BYTES] [--window BYTES] [--waiting BYTES] [--unfinished BYTES] [--store FILE] [--existing] [--began NANOSECONDS] [--lease SECONDS] [--sync always|second] [--compact-over BYTES] [--compact-useless PERCENT] [--users FILE] [--realm TEXT] [--log FILE] [--log-format common|combined|json] [--seed NUMBER] [--clock NANOSECONDS|frames]\n";
 
 /// Serves on the standard streams as the words behind the program's name choose, and tells on standard error why it ends, where that is not the end of the input. Its status.
 pub fn run(rt: &HostRuntime) -> ExitCode {

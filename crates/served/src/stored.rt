@@ -1,5 +1,5 @@
 //! Serving with stores that a file keeps.
-ghost use Rattle.std.specs.Prelude.{◌≡◌, if◌then◌else◌, None, Some, Ok, IsErr, IsTrue, IfOk, IfSome, OnOk};
+ghost use Rattle.std.specs.Prelude.{◌≡◌, ◌≢◌, if◌then◌else◌, None, Some, Ok, IsErr, IsSome, IsTrue, IfOk, IfSome, OnErr, OnOk};
 ghost use Rattle.sqlite_std_file.specs.File.{file_is_usable};
 ghost use Rattle.journal_core.specs.JournalReading.{header_of};
 ghost use Rattle.journal_core.specs.Resting.{disk_behind, is_ready};
@@ -17,7 +17,7 @@ use dav_handler_core::dav::{Dav, Settings};
 use dav_handler_core::serving::{Clock, Timed};
 use dav_kept_core::{Recorded, Tree, serve_store, serve_store_late};
 use dav_store_core::{Opened, StoreError, Watch, load};
-use http_frames::gate::OneCall;
+use http_frames::gate::{AccessLog, OneCall};
 use http_frames::serving::End;
 use journal_core::{Header, Journal, JournalError, Reader};
 use journal_file::open;
@@ -229,6 +229,7 @@ fn check_began(
 ) -> Result<(), Stopped>
     ensures began { OnOk result (IfSome began (λ moment. IfSome reader.now (λ r. (header_of r).began ≡ moment))) }
     ensures any { began ≡ None → result ≡ Ok tt }
+    ensures other { OnErr result (IsSome began × IsSome reader.now × IfSome began (λ moment. IfSome reader.now (λ r. (header_of r).began ≢ moment))) }
 {
     let (Some(reader), Some(moment)) = (reader, began) else {
         return Ok(());
@@ -340,7 +341,7 @@ fn serve_recorded<R: Rng + Drop, C: Clock + Drop, D: Disk, I: Read, O: Write>(
     requires usable { IsTrue (D.Disk.is_usable (disk_behind journal.old)) }
 {
     if fronts.is_none() {
-        let mut server = OneCall::new(service);
+        let mut server = OneCall::new(service, fronts.take_log());
         return serve_on(rt.alloc(), sync, streams, &mut server, journal);
     }
     if fronts.read_only {
@@ -366,11 +367,11 @@ fn server_over<R: Rng + Drop, C: Clock + Drop>(
 }
 
 // Serves on any disk. What is proved of it stands on `serve_store` and `serve_store_late`.
-fn serve_on<R: Rng, C: Clock, D: Disk, I: Read, O: Write>(
+fn serve_on<R: Rng, C: Clock, L: AccessLog, D: Disk, I: Read, O: Write>(
     alloc: Global,
     sync: Sync,
     streams: &mut Streams<I, O>,
-    server: &mut OneCall<Recorded<R, C>>,
+    server: &mut OneCall<Recorded<R, C>, L>,
     journal: &mut Journal<D, O>,
 ) -> Result<End, Stopped>
     requires usable { IsTrue (D.Disk.is_usable (disk_behind journal.old)) }

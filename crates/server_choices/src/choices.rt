@@ -76,6 +76,17 @@ impl From<ParseIntError> for Unread {
     }
 }
 
+/// In which form a log has its lines.
+#[derive(Clone, Copy, PartialEq, Eq)]
+pub enum LogFormat {
+    /// The common log format.
+    Common,
+    /// The combined log format.
+    Combined,
+    /// An object of JSON.
+    Json,
+}
+
 /// What the words choose.
 #[derive(Drop)]
 pub struct Choices {
@@ -107,6 +118,8 @@ pub struct Choices {
     pub read_only: bool,
     /// The file that has a line for each request, `-` for standard error; without one there are no lines.
     pub log: Option<String>,
+    /// The form of those lines.
+    pub log_format: LogFormat,
     /// The file that keeps the stores; without one they are in memory alone.
     pub store: Option<String>,
     /// Whether that file has to be there: none is made then.
@@ -132,7 +145,7 @@ pub struct Choices {
 impl Choices {
     /// Perhaps `--one` or `--login`, and behind it `--read-only` and `--existing`, which have no value, and options, each with its value, in any order; of one that comes twice the last counts. `OutOfMemory`
     /// where there is no memory for it. `Unknown` where a word is none of these, `Value` where a value is missing or isn't one; and `Usage` where stores that a file keeps meet `--one` or a seed, or nothing is kept and it is to be there already, to have begun at a moment, to have a lease or to be synced each second, users `--one` or
-    /// a header that names the principal, a file of users `--login`, or `--read-only` or a log `--one`.
+    /// a header that names the principal, a file of users `--login`, `--read-only` or a log `--one`, or a form of lines meets no log.
     pub fn of(alloc: Global, words: &[String]) -> Result<Choices, Unread> {
         let mut choices = Choices::unsaid(alloc)?;
         choices.read(alloc, words)?;
@@ -157,6 +170,7 @@ impl Choices {
             one: false,
             read_only: false,
             log: None,
+            log_format: LogFormat::Common,
             store: None,
             existing: false,
             began: None,
@@ -302,6 +316,8 @@ impl Choices {
     fn set_client(&mut self, alloc: Global, name: &str, value: &str) -> Result<bool, Unread> {
         if name == "--log" {
             self.log = Some(file_of(alloc, value)?);
+        } else if name == "--log-format" {
+            self.log_format = log_format_of(value)?;
         } else if name == "--users" {
             self.users = Some(file_of(alloc, value)?);
         } else if name == "--realm" {
@@ -340,6 +356,9 @@ impl Choices {
         if self.one && (self.read_only || self.log.is_some() || self.logs_in()) {
             return false;
         }
+        if self.log.is_none() && self.log_format != LogFormat::Common {
+            return false;
+        }
         let is_told = self.user_header.is_some() || (self.login && self.users.is_some());
         !(self.logs_in() && is_told)
     }
@@ -361,6 +380,16 @@ fn is_second(first: &str, second: &str, word: &str) -> Result<bool, Unread> {
         Ok(false)
     } else {
         Err(Unread::Usage)
+    }
+}
+
+// The form of the lines of a log, as a word names it.
+fn log_format_of(word: &str) -> Result<LogFormat, Unread> {
+    match word {
+        "common" => Ok(LogFormat::Common),
+        "combined" => Ok(LogFormat::Combined),
+        "json" => Ok(LogFormat::Json),
+        _ => Err(Unread::Usage),
     }
 }
 

@@ -3,4 +3,4 @@
 
 mod choices;
 
-pub use choices::{Choices, Compacting, Sync, Unread};
+pub use choices::{Choices, Compacting, LogFormat, Sync, Unread};

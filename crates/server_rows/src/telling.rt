@@ -1,5 +1,5 @@
 //! A service that tells whose requests it is asked, and a clock that stands still.
-ghost use Rattle.std.specs.Prelude.{⊤};
+ghost use Rattle.std.specs.Prelude.{⊤, []};
 
 use bytes::Bytes;
 use dav_login_core::Host;
@@ -48,7 +48,13 @@ impl TurnService for Telling {
 
     ghost room = { λ _. 0 };
 
+    ghost user = { λ _. [] };
+
     fn begin_turn(&mut self, _number: u64, _address: &[u8], _bytes: u64) {}
+
+    fn user(&self) -> &[u8] {
+        &[]
+    }
 
     fn own_len(&self, _request: &Request<Bytes>, _response: &Response) -> u64 {
         0
@@ -71,7 +77,9 @@ pub(crate) struct Still<'a> {
 }
 
 impl Host for Still<'_> {
-    fn now(&mut self) -> u64 {
+    ghost told = { λ _ _ _. ⊤ };
+
+    fn now(&self) -> u64 {
         self.now.get()
     }
 

@@ -1,1 +1,2 @@
 pub mod LookRuns
+pub mod NamedRuns

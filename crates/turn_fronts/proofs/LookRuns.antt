@@ -2,7 +2,7 @@
 use Rattle.std.proofs.Common.{ℕ, List, [], ◌∷◌, map, ap}
 use Rattle.http.specs.declared.request.Request.{Request}
 use Rattle.http_server.specs.declared.response.Response.{Response}
-use Rattle.http_frames.specs.ConnectionEvents.{Event, Came, Rejected, Took, Gone, Answered, Told, Granted, Awaited, Ended, Clock, Free, From, Users, Asked, Nothing, Touched, Closed}
+use Rattle.http_frames.specs.ConnectionEvents.{Event, Came, Rejected, Took, Gone, Answered, Told, Granted, Awaited, Known, Ended, Clock, Free, From, Users, Late, Turned, Asked, Nothing, Touched, Closed}
 use Rattle.http_frames.specs.TurnRuns.{EventDoes, EventsLead}
 use Rattle.turn_fronts.specs.declared.read_only.ReadOnly.{ReadOnly}
 use Rattle.turn_fronts.specs.Looking.{with_looks}
@@ -32,6 +32,9 @@ module _ {S : Type 0} (begins : S → ℕ → S → Type 0) (answers : S → Req
   event_looks (Told number bytes) old new does = ap service_of does
   event_looks (Granted number count) old new does = ap service_of does
   event_looks (Awaited number part count) old new does = ap service_of does
+  event_looks (Known number) old new does = ap service_of does
+  event_looks (Late number) old new does = ap service_of does
+  event_looks (Turned address count) old new does = ap service_of does
   event_looks (Ended number) old new does = ap service_of does
   event_looks Asked old new does = ap service_of does
   event_looks Nothing old new does = ap service_of does

@@ -1,4 +1,6 @@
+pub mod LineViews
 pub mod LogLines
-pub mod LoggedAnswers
+pub mod LogTaking
 pub mod Looking
+pub mod NamedUsers
 pub mod Private

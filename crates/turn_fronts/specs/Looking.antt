@@ -6,6 +6,7 @@ use Rattle.http.specs.Method.{is_among, safe_methods}
 use Rattle.http_server.specs.declared.response.Response.{Response}
 use Rattle.http_server.specs.Exchange.{Call}
 use Rattle.http_server.specs.Response.{IsResponse}
+use Rattle.http_frames.specs.Closing.{close_field}
 use Rattle.http_frames.specs.ConnectionEvents.{Event, Answered}
 use Rattle.http_frames.specs.TurnRuns.{EventsLead}
 use Rattle.turn_fronts.specs.declared.read_only.ReadOnly.{ReadOnly}
@@ -14,11 +15,11 @@ use Rattle.turn_fronts.specs.declared.read_only.ReadOnly.{ReadOnly}
 abbrev pub only_looks : Request (List ℕ) → Bool
 only_looks request = is_among (codes "PROPFIND" ∷ safe_methods) (head_of request).method
 
--- A request that asks for no change is answered by the service. Any other is answered 403, with no field and no body (RFC 9110 section 15.5.4), and the service stays as it is.
+-- A request that asks for no change is answered by the service. Any other is answered 403, with no body and no field, but where it is long one that closes its connection (RFC 9110 section 15.5.4), and the service stays as it is.
 abbrev pub LetsLook : {S : Type 0} → (S → Request (List ℕ) → Response → S → Type 0) → S → Request (List ℕ) → Response → S → Type 0
 LetsLook answers old request response new =
     ((only_looks request ≡ true) × answers old request response new)
-    ⊎ ((only_looks request ≡ false) × IsResponse 403 [] [] response × (new ≡ old))
+    ⊎ ((only_looks request ≡ false) × IsResponse 403 (close_field request) [] response × (new ≡ old))
 
 -- the calls that ask for no change, in order
 abbrev pub looking : List Call → List Call

@@ -1,2 +1,2 @@
-pub mod LoggedTurns
 pub mod LookTurns
+pub mod NamedTurns

@@ -1,11 +1,13 @@
 //! A service of which only what looks is asked.
-ghost use Rattle.std.specs.Prelude.{◌≡◌, []};
+ghost use Rattle.std.specs.Prelude.{◌≡◌, [], OnOk};
+ghost use Rattle.http_frames.specs.Closing.{close_field};
 ghost use Rattle.http_server.specs.Response.{IsBlank, IsResponse};
 ghost use Rattle.turn_fronts.specs.Looking.{LetsLook};
 
 use crate::looking::asks_to_look;
 use bytes::Bytes;
 use http::{Request, StatusCode};
+use http_frames::closing::close_behind_long;
 use http_server::{Response, Service};
 use std::alloc::AllocError;
 
@@ -25,7 +27,7 @@ impl<S> ReadOnly<S> {
     }
 }
 
-/// A request that asks for no change is answered by the service. Any other is answered 403 (RFC 9110 section 15.5.4), and the service is not asked. `AllocError` where the service has no memory.
+/// A request that asks for no change is answered by the service. Any other is answered 403 (RFC 9110 section 15.5.4), and the service is not asked. `AllocError` where there is no memory.
 impl<S: Service> Service for ReadOnly<S> {
     ghost answers = { λ old request response new. LetsLook S.answers old.service request response new.service };
 
@@ -35,17 +37,17 @@ impl<S: Service> Service for ReadOnly<S> {
         response: &mut Response,
     ) -> Result<(), AllocError> {
         if !asks_to_look(request) {
-            forbid(response);
-            return Ok(());
+            return forbid(request, response);
         }
         self.service.call(request, response)
     }
 }
 
 /// Says that the request is refused whoever asks.
-pub(crate) fn forbid(response: &mut Response)
+pub(crate) fn forbid(request: &Request<Bytes>, response: &mut Response) -> Result<(), AllocError>
     requires { IsBlank response.old }
-    ensures { IsResponse 403 [] [] response.new }
+    ensures { OnOk result (IsResponse 403 (close_field request.now) [] response.new) }
 {
     response.status = StatusCode::FORBIDDEN;
+    close_behind_long(request, response)
 }

@@ -1,20 +1,19 @@
 //! A service of which a journal keeps what each turn changed, behind these.
 ghost use Rattle.turn_fronts.specs.Looking.{looking};
-ghost use Rattle.turn_fronts.specs.Private.LoggedTurns.{told_behind};
+ghost use Rattle.turn_fronts.specs.Private.NamedTurns.{told_behind};
 ghost use Rattle.turn_fronts.specs.Private.LookTurns.{told_looks};
 
-use crate::logged::Logged;
-use crate::noting::Log;
+use crate::named::Named;
 use crate::read_only::ReadOnly;
 use journal_core::Round;
 use kept_frames::Recording;
 use std::alloc::AllocError;
 
 /// It is kept as the service is.
-impl<S: Recording, L: Log> Recording for Logged<S, L> {
-    ghost stands = { λ records l. S.stands records l.service };
+impl<S: Recording> Recording for Named<S> {
+    ghost stands = { λ records n. S.stands records n.service };
 
-    ghost turn = { λ l. S.turn l.service };
+    ghost turn = { λ n. S.turn n.service };
 
     fn turn(&self) -> bool {
         self.service.turn()
@@ -26,9 +25,9 @@ impl<S: Recording, L: Log> Recording for Logged<S, L> {
 
     ghost turns = { λ old number calls new told. S.turns old.service number calls new.service (told_behind S.begins S.answers old number calls new told) };
 
-    ghost clocks = { λ records old moment new stands clocked. S.clocks records old.service moment new.service stands clocked };
+    ghost clocks = { λ records old moment new stands clocked. S.clocks records old.service moment new.service stands clocked.taken };
 
-    ghost lists = { λ records old file new stands listed. S.lists records old.service file new.service stands listed };
+    ghost lists = { λ records old file new stands listed. S.lists records old.service file new.service stands listed.taken };
 }
 
 /// It is kept as the service is.

@@ -1,25 +1,32 @@
 //! What the service is told between its calls.
-use crate::logged::Logged;
-use crate::noting::Log;
+ghost use Rattle.turn_fronts.specs.NamedUsers.{BeginsUnnamed, HandsOnAs, user_let_in};
+
+use crate::named::Named;
 use crate::read_only::ReadOnly;
 use bytes::Bytes;
 use http::Request;
 use http_frames::gate::TurnService;
 use http_server::Response;
 
-/// The service is told each word.
-impl<S: TurnService, L: Log> TurnService for Logged<S, L> {
-    ghost begins = { λ old number new. S.begins old.service number new.service };
+/// The service is told each word. At the begin of a turn nobody was let in.
+impl<S: TurnService> TurnService for Named<S> {
+    ghost begins = { λ old number new. BeginsUnnamed S.begins old number new };
 
-    ghost clocked = { λ old moment new. S.clocked old.service moment new.service };
+    ghost clocked = { λ old moment new. HandsOnAs S.clocked old moment new };
 
-    ghost listed = { λ old file new. S.listed old.service file new.service };
+    ghost listed = { λ old file new. HandsOnAs S.listed old file new };
 
-    ghost room = { λ l. S.room l.service };
+    ghost room = { λ n. S.room n.service };
+
+    ghost user = { λ n. user_let_in n };
 
     fn begin_turn(&mut self, number: u64, address: &[u8], bytes: u64) {
-        self.notes.begin(address);
+        self.user.clear();
         self.service.begin_turn(number, address, bytes);
+    }
+
+    fn user(&self) -> &[u8] {
+        &self.user
     }
 
     fn own_len(&self, request: &Request<Bytes>, response: &Response) -> u64 {
@@ -49,8 +56,14 @@ impl<S: TurnService> TurnService for ReadOnly<S> {
 
     ghost room = { λ r. S.room r.service };
 
+    ghost user = { λ r. S.user r.service };
+
     fn begin_turn(&mut self, number: u64, address: &[u8], bytes: u64) {
         self.service.begin_turn(number, address, bytes);
+    }
+
+    fn user(&self) -> &[u8] {
+        self.service.user()
     }
 
     fn own_len(&self, request: &Request<Bytes>, response: &Response) -> u64 {

@@ -22,8 +22,8 @@ behind_short door [] inner none = omega (arith, ap length none)
 behind_short door (c ∷ calls) inner (inl refused) = omega (arith, behind_short door calls inner refused.1)
 behind_short door (c ∷ calls) inner (inr passed) = omega (arith, ap length passed.2, behind_short door calls passed.1 passed.4)
 
-module _ {S : Type 0} (answers : S → Request (List ℕ) → Response → S → Type 0) where
-  one_more : (c : Call) (calls : List Call) (old next new : LoginState S) → LoggedIn answers old c.0 c.1 next → LeadsBehind answers next calls new
+module _ {S H : Type 0} (answers : S → Request (List ℕ) → Response → S → Type 0) where
+  one_more : (c : Call) (calls : List Call) (old next new : LoginState S H) → LoggedIn answers old c.0 c.1 next → LeadsBehind answers next calls new
       → LeadsBehind answers old (c ∷ calls) new
   one_more c calls old next new answered leads = by answered.answer
     where
@@ -35,14 +35,16 @@ module _ {S : Type 0} (answers : S → Request (List ℕ) → Response → S →
       by (inl refuses) = record {
         inner = leads.inner;
         behind = inl (turned old.door c.0 c.1 old.known refuses.refused, behind);
-        chain = subst (λ (s : LoginState S). Chain answers s.service leads.inner new.service) refuses.stays leads.chain;
+        chain = subst (λ (s : LoginState S H). Chain answers s.service leads.inner new.service) refuses.stays leads.chain;
         door = leads.door ∙ answered.door;
+        host = leads.host ∙ answered.host;
       }
       by (inr serves) = record {
         inner = (serves.inner, c.1) ∷ leads.inner;
         behind = inr (serves.inner, leads.inner, refl, serves.passed, behind);
         chain = (next.service, serves.answered, leads.chain);
         door = leads.door ∙ answered.door;
+        host = leads.host ∙ answered.host;
       }
 
 module _ {S H : Type 0} (begins : S → ℕ → S → Type 0) (answers : S → Request (List ℕ) → Response → S → Type 0) where
@@ -60,6 +62,7 @@ module _ {S H : Type 0} (begins : S → ℕ → S → Type 0) (answers : S → R
     behind = refl;
     chain = ap (λ (l : Login S H). l.service) same;
     door = ap (λ (l : Login S H). (login l).door) same;
+    host = ap (λ (l : Login S H). (login l).host) same;
   }
   leads_behind old new (c ∷ calls) chain = one_more answers c calls (login old) (login chain.0) (login new) chain.1 (leads_behind chain.0 new calls chain.2)
 
@@ -82,4 +85,5 @@ module _ {S H : Type 0} (begins : S → ℕ → S → Type 0) (answers : S → R
         behind = subst (λ (d : Door). AreBehind d calls leads.inner) told.1.door leads.behind;
         told = (told.0.service, told.1.service, once_by told.0 new calls leads told.2.one);
         door = leads.door ∙ told.1.door;
+        host = leads.host ∙ told.1.host;
       }

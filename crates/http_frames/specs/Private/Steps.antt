@@ -1,5 +1,5 @@
 -- What the steps do of which a call is made.
-use Rattle.std.specs.Prelude.{◌≡◌, ◌≢◌, ◌⊎◌, ℕ, ◌<◌, ◌≤◌, ◌+◌, ◌-◌, false, List, [], ◌∷◌, ◌++◌, length, take, Option, Some, None, Contains, IsTrue, IsFalse, if◌then◌else◌, ◌==◌}
+use Rattle.std.specs.Prelude.{◌≡◌, ◌≢◌, ◌⊎◌, ℕ, ◌<◌, ◌≤◌, ◌+◌, ◌-◌, Bool, true, false, List, [], ◌∷◌, ◌++◌, length, take, Option, Some, None, Contains, IsTrue, IsFalse, if◌then◌else◌, ◌==◌}
 use Rattle.std.specs.Io.KnownBytes.{Appends}
 use Rattle.http.specs.declared.request.Request.{Request}
 use Rattle.http_server.specs.declared.connection.Connection.{Connection}
@@ -12,7 +12,7 @@ use Rattle.http_frames.specs.declared.clients.Clients.{Clients}
 use Rattle.http_frames.specs.declared.held.Held.{Held}
 use Rattle.http_frames.specs.declared.clients.Windows.{Windows}
 use Rattle.http_frames.specs.Clients.{HearsMore, IsAllDue, IsNews, asked_of, count_begun, config_of, window_of, queue_of, held_at, history_of}
-use Rattle.http_frames.specs.Frames.{grant_text, piece_text, wait_text}
+use Rattle.http_frames.specs.Frames.{grant_text, known_text, piece_text, wait_text}
 use Rattle.http_frames.specs.Gate.{TakesTurn}
 
 -- ---- one connection
@@ -77,6 +77,8 @@ pub record Settles (k k' : Held) : Type 0 where
   pub news : IsNews k'
   pub ended : k'.ended ≡ k.ended
   pub queued : k'.queued ≡ k.queued
+  pub known : k'.known ≡ k.known
+  pub told : k'.told ≡ k.told
 
 -- one step of a connection, unless an answer of it waits
 pub record Steps {S : Type 0} (begins : S → ℕ → S → Type 0) (answers : S → Request (List ℕ) → Response → S → Type 0) (number : ℕ) (k k' : Held) (s s' : S) : Type 0 where
@@ -97,6 +99,10 @@ pub record Steps {S : Type 0} (begins : S → ℕ → S → Type 0) (answers : S
   pub news : IsNews k'
   pub ended : k'.ended ≡ k.ended
   pub unqueued : IsFalse k'.queued
+
+-- a user was let in, where a call was answered as one's
+abbrev pub LearnsByCall : Bool → List ℕ → Held → Held → Type 0
+LearnsByCall called user k k' = ((k' ≡ record k { known = true }) × IsTrue called × (user ≢ [])) ⊎ ((k' ≡ k) × (IsTrue called → user ≡ []))
 
 -- so many of the bytes that wait were written as a piece
 pub record WritesOutput (number room : ℕ) (k : Connection) (count : ℕ) (held holds : Option (List ℕ)) : Type 0 where
@@ -133,12 +139,19 @@ pub record TellsWait (number : ℕ) (k k' : Held) (held holds : Option (List ℕ
   pub now : k' ≡ record k { news = false }
   pub wrote : Appends held holds (wait_text number k.part k.heard)
 
--- a piece went out to it, or a grant, or that it waits
+-- it was told that a user was let in
+pub record TellsKnown (number : ℕ) (k k' : Held) (held holds : Option (List ℕ)) : Type 0 where
+  pub known : IsTrue k.known × IsFalse k.told
+  pub now : k' ≡ record k { told = true }
+  pub wrote : Appends held holds (known_text number)
+
+-- a piece went out to it, or a grant, or that it waits, or that a user was let in
 abbrev pub Speaks : ℕ → Windows → Held → Held → List ℕ → List ℕ → Option (List ℕ) → Option (List ℕ) → Type 0
 Speaks number windows k k' queue queue' held holds =
     Sends number windows k k' queue queue' held holds
     ⊎ ((IsFalse windows.closed × (queue' ≡ queue) × GrantsMore number k k' held holds)
-    ⊎ (((history_of k).state ≡ Open) × (queue' ≡ queue) × TellsWait number k k' held holds))
+    ⊎ ((((history_of k).state ≡ Open) × (queue' ≡ queue) × TellsWait number k k' held holds)
+    ⊎ ((queue' ≡ queue) × TellsKnown number k k' held holds)))
 
 -- ---- among the others
 

@@ -12,7 +12,7 @@ returns-in_default-clause-ok g c =
     let none = c.in_default.ensures.none refl in
     let held = g.O.Write.contents c.args.output.now in
     wrote_still g.S.TurnService.begins g.S.Service.answers g.S.TurnService.clocked g.S.TurnService.listed c.args.clients.now c.answer.new.self c.args.service.now.service c.answer.new.service.service held held
-    none.3 (same_line c.args.clients.now c.answer.new.self (none.1 ∙ sym none.0)) c.answer.ensures.settings.config c.answer.ensures.settings.window (ap (λ (o : OneCall g.row.S.Denot). o.service) none.2) (Keeps-refl held)
+    none.3 (same_line c.args.clients.now c.answer.new.self (none.1 ∙ sym none.0)) c.answer.ensures.settings.config c.answer.ensures.settings.window (ap (λ (o : OneCall g.row.S.Denot g.row.L.Denot). o.service) none.2) (Keeps-refl held)
 
 pub returns-in_err-tell-clause-err : goal.returns-in_err-tell-clause-err
 returns-in_err-tell-clause-err g c =

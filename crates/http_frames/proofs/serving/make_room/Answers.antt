@@ -18,7 +18,7 @@ loop-other-preserved g c =
           (told_then c.args.clients.now c.loop-other.clients c.excess.new.self from held held c.loop-other.invariant.told
           (told_still c.loop-other.clients c.excess.new.self held c.excess.ensures.stays (same_line c.loop-other.clients c.excess.new.self c.excess.ensures.queue) c.excess.ensures.settings.config c.excess.ensures.settings.window))
           (told_one c.in-Some.other c.excess.new.self c.end.new.self held holds
-          (record { event = Ended c.in-Some.other; number_is = refl; out = tt; wrote = told.1; adds = told.0 }) (inl c.end.ensures.queue) c.end.ensures.settings.config c.end.ensures.settings.window);
+          (record { event = Ended c.in-Some.other; number_is = refl; out = tt; wrote = told.1; adds = told.0; known = tt }) (inl c.end.ensures.queue) c.end.ensures.settings.config c.end.ensures.settings.window);
       begun = c.end.ensures.settings.begun ∙ c.excess.ensures.settings.begun ∙ c.loop-other.invariant.begun;
     }
 

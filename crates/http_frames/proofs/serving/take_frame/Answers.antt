@@ -1,6 +1,6 @@
-use Rattle.std.proofs.Common.{Some, ap, refl, ◌∙◌}
+use Rattle.std.proofs.Common.{Some, ap, refl, sym, ◌∙◌, true≢false}
 use Rattle.http_frames.specs.declared.frames.Head.{Head}
-use Rattle.http_frames.proofs.Framing.{clock_frame, free_frame, from_frame, gone_frame, nothing_frame, piece_breaks, piece_frame, taken_breaks, taken_frame, touch_breaks, touch_frame, untaken_frame, users_frame}
+use Rattle.http_frames.proofs.Framing.{clock_frame, free_frame, from_frame, gone_frame, late_frame, nothing_frame, piece_breaks, piece_frame, taken_breaks, taken_frame, touch_breaks, touch_frame, turned_frame, unlate_frame, untaken_frame, users_frame}
 use Rattle.http_frames.proofs.Results.{on_err}
 use Rattle.http_frames.proofs.serving.take_frame.Goals as goal
 
@@ -87,3 +87,22 @@ returns-in_ok-write_touched-in-Some-Touch-clause-ok g c =
     let is = c.in-Some-Touch.is ∙ ap (λ (h : Head). Some h) (rw c.in-Some-Touch.is at c.in-Some-Touch.field-0-is) in
     touch_frame g.S.TurnService.begins g.S.Service.answers g.S.TurnService.clocked g.S.TurnService.listed c.args.head c.args.bytes.now c.args.clients.now c.args.service.now.service (g.O.Write.contents c.args.output.now)
     (g.O.Write.contents c.write_touched.new.output) is c.in_ok-write_touched-in-Some-Touch.ensures.ok
+
+pub returns-in-Some-clause-ok : goal.returns-in-Some-clause-ok
+returns-in-Some-clause-ok g c =
+    let is = c.in-Some-Late.is ∙ ap (λ (h : Head). Some h) (rw c.in-Some-Late.is at c.in-Some-Late.field-0-is) in
+    late_frame g.S.TurnService.begins g.S.Service.answers g.S.TurnService.clocked g.S.TurnService.listed c.args.head c.in-Some-Late.number c.args.bytes.now c.args.clients.now c.args.service.now.service (g.O.Write.contents c.args.output.now) is
+
+pub returns-in_default-clause-ok : goal.returns-in_default-clause-ok
+returns-in_default-clause-ok g c =
+    let is = c.in-Some-Late.is ∙ ap (λ (h : Head). Some h) (rw c.in-Some-Late.is at c.in-Some-Late.field-0-is) in (
+      refl,
+      refl,
+      refl,
+      unlate_frame c.args.head c.in-Some-Late.number c.args.clients.now is (λ number. let some = c.address_of.ensures.order.1 number in true≢false (sym (rw c.in_default.is at some))),
+    )
+
+pub returns-in-Some-Turned-clause-ok : goal.returns-in-Some-Turned-clause-ok
+returns-in-Some-Turned-clause-ok g c =
+    let is = c.in-Some-Turned.is ∙ ap (λ (h : Head). Some h) (rw c.in-Some-Turned.is at c.in-Some-Turned.field-0-is) in
+    turned_frame g.S.TurnService.begins g.S.Service.answers g.S.TurnService.clocked g.S.TurnService.listed c.args.head c.in-Some-Turned.count c.args.bytes.now c.args.clients.now c.args.service.now.service (g.O.Write.contents c.args.output.now) is

@@ -13,7 +13,7 @@ returns-in_default-clause-ok g c =
     let none = c.in_default.ensures.none refl in
     notes_none g.S.TurnService.begins g.S.Service.answers g.S.TurnService.clocked g.S.TurnService.listed g.S.Recording.stands c.args.clients.now c.answer.new.self c.args.service.now.service c.answer.new.service.service c.args.round.now
     (still c.args.clients.now c.answer.new.self none.3 (same_line c.args.clients.now c.answer.new.self (none.1 ∙ sym none.0)) c.answer.ensures.settings.config c.answer.ensures.settings.window)
-    (ap (λ (o : OneCall g.row.S.Denot). o.service) none.2)
+    (ap (λ (o : OneCall g.row.S.Denot g.row.L.Denot). o.service) none.2)
 
 pub returns-in_err-record-clause-err : goal.returns-in_err-record-clause-err
 returns-in_err-record-clause-err g c =

@@ -1,4 +1,3 @@
-use Rattle.std.proofs.Common.{◌≡◌}
 use Rattle.kept_frames.proofs.Standings.{kept_stays}
 use Rattle.kept_frames.proofs.Steps.{breaks_then, fails}
 use Rattle.kept_frames.proofs.Taking.{unturned_broken}

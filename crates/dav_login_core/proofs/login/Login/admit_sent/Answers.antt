@@ -1,4 +1,5 @@
 use Rattle.http_server.specs.Response.{IsResponse}
+use Rattle.http_frames.specs.Closing.{close_field}
 use Rattle.std.proofs.Common.{◌≡◌, ℕ, List, [], ◌∷◌, codes, Err, refl, sym, ap, subst, inl, inr, ◌∙◌}
 use Rattle.http_header.specs.declared.value.HeaderValueError.{HeaderValueError}
 use Rattle.http_header.specs.FieldValue.{FieldValue, IsFieldValue}
@@ -71,11 +72,11 @@ returns-in_ok-refuse-in-Wrong-clause-none g c = λ _.
     let door = (login c.args.self.now).door in
     turned_away (login c.args.self.now) _ c.args.request.now c.refuse-in-Wrong.new.response
     (given_in_vain door c.args.request.now (name_and_password_of c.args.given) c.requires.is_sent (inl (inl c.in-Wrong.ensures.weighs.1)))
-    (subst (λ (l : Login g.row.S.Denot g.row.H.Denot). IsResponse 401 ((codes "www-authenticate", l.challenge.bytes) ∷ []) [] c.refuse-in-Wrong.new.response)
+    (subst (λ (l : Login g.row.S.Denot g.row.H.Denot). IsResponse 401 ((codes "www-authenticate", l.challenge.bytes) ∷ close_field c.args.request.now) [] c.refuse-in-Wrong.new.response)
     c.weigh.ensures.same c.in_ok-refuse-in-Wrong.ensures)
-    (same_state (users_in c.weigh.new.self.accepted.users) (users_in c.note_refused.new.self.users) c.weigh.new.self.challenge.bytes c.weigh.new.self.header c.weigh.new.self.watch.field
+    (same_state (users_in c.weigh.new.self.accepted.users) (users_in c.note_refused.new.self.users) c.weigh.new.self.challenge.bytes c.weigh.new.self.header c.weigh.new.self.watch.addresses.field
     c.weigh.new.self.accepted.key c.note_refused.new.self.key c.weigh.new.self.accepted.known.items c.note_refused.new.self.known.items
-    c.weigh.new.self.service (ap users_in c.note_refused.ensures.users) c.note_refused.ensures.key c.note_refused.ensures.known
+    c.weigh.new.self.service c.weigh.new.self.watch.host (ap users_in c.note_refused.ensures.users) c.note_refused.ensures.key c.note_refused.ensures.known
     ∙ ap (λ (l : Login g.row.S.Denot g.row.H.Denot). login l) c.weigh.ensures.same)
 
 pub returns-in_ok-refuse-in-Again-clause-none : goal.returns-in_ok-refuse-in-Again-clause-none
@@ -83,7 +84,7 @@ returns-in_ok-refuse-in-Again-clause-none g c = λ _.
     turned_away (login c.args.self.now) (login c.weigh.new.self) c.args.request.now c.refuse-in-Again.new.response
     (given_in_vain (login c.args.self.now).door c.args.request.now (name_and_password_of c.args.given) c.requires.is_sent
     (inl (inr c.in-Again.ensures.weighs.1)))
-    (subst (λ (l : Login g.row.S.Denot g.row.H.Denot). IsResponse 401 ((codes "www-authenticate", l.challenge.bytes) ∷ []) [] c.refuse-in-Again.new.response)
+    (subst (λ (l : Login g.row.S.Denot g.row.H.Denot). IsResponse 401 ((codes "www-authenticate", l.challenge.bytes) ∷ close_field c.args.request.now) [] c.refuse-in-Again.new.response)
     c.weigh.ensures.same c.in_ok-refuse-in-Again.ensures)
     (ap (λ (l : Login g.row.S.Denot g.row.H.Denot). login l) c.weigh.ensures.same)
 

@@ -11,10 +11,11 @@ pub returns-in-Ok-clause-lists : goal.returns-in-Ok-clause-lists
 returns-in-Ok-clause-lists g c =
     let before = users_in c.args.self.now.accepted.users in
     record {
-      users = inl (
-        c.in-Ok.ensures.0,
-        c.in-Ok.ensures.1 ∙ ap (λ (u : Users). (let r : UsersReading = Ok (users_in u, c.in-Ok.ensures.0) in r)) (sym c.list.ensures.users),
-      );
+      users = inl (record {
+        count = c.in-Ok.ensures.0;
+        users = c.in-Ok.ensures.1 ∙ ap (λ (u : Users). (let r : UsersReading = Ok (users_in u, c.in-Ok.ensures.0) in r)) (sym c.list.ensures.users);
+        host = refl;
+      });
       known =
           subst (λ (u : Users). Retains (λ (k : Known). hash_named before (string_bytes k.name) ≡ hash_named (users_in u) (string_bytes k.name))
           c.args.self.now.accepted.known.items c.list.new.self.known.items)
@@ -29,11 +30,11 @@ pub returns-in-Err-clause-lists : goal.returns-in-Err-clause-lists
 returns-in-Err-clause-lists g c =
     let before = users_in c.args.self.now.accepted.users in
     record {
-      users = inr refl;
+      users = inr (record { error = c.in-Err.error; is_told = c.tell.ensures.told; is_true = c.in-Err.ensures; users = refl });
       known = retains_all (λ (k : Known). hash_named before (string_bytes k.name) ≡ hash_named before (string_bytes k.name)) (λ k. refl)
           c.args.self.now.accepted.known.items;
       challenge = refl;
       header = refl;
-      address_field = ap (λ (a : Addresses). a.field) c.tell.ensures;
+      address_field = ap (λ (a : Addresses). a.field) c.tell.ensures.addresses;
       key = refl;
     }

@@ -19,4 +19,4 @@ returns-in_ok-call-in-Some-clause-ok g c =
     served g.S.Service.answers (login c.args.self.now) (login c.admit.new.self) (login c.learn.new.self) c.args.request.now c.call.new.response
     c.in-Some.admitted c.call.new.self (c.admit.ensures.some c.in-Some.admitted is)
     (ap (λ (l : Login g.row.S.Denot g.row.H.Denot). login l) (c.admit.ensures.same c.in-Some.admitted is))
-    c.in_ok-call-in-Some.ensures.ok c.learn.ensures.service c.learn.ensures.door c.learn.ensures.known
+    c.in_ok-call-in-Some.ensures.ok c.learn.ensures.service c.learn.ensures.door c.learn.ensures.host c.learn.ensures.known

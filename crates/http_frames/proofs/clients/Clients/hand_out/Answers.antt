@@ -54,6 +54,7 @@ returns-in_ok-write_piece-in-Over-clause-told g c = λ is.
         window = refl;
         asked = refl;
       }) over.1;
+      known = tt;
     }
 
 pub returns-in-NoRoom-clause-told : goal.returns-in-NoRoom-clause-told
@@ -69,6 +70,7 @@ returns-in-NoRoom-clause-told g c = λ is.
       wrote = subst (λ (t : Option (List ℕ)). Appends t (g.O.Write.contents c.end.new.output) (piece_text c.args.number [])) (ap g.O.Write.contents quiet) told.1;
       adds = λ es h. told.0 es (waits c.args.self.now _ c.args.number b.0 b.1 c.in-Some.held.now c.speak.new.held (sym c.in-Some.ensures.value)
           (record { puts = put.0; begun = refl; config = refl; window = refl; asked = refl }) (c.in_ok-speak.ensures.other (λ is. let room = c.in-NoRoom.is in cc)) es h);
+      known = tt;
     }
 
 pub returns-in-NoRoom-clause-stays : goal.returns-in-NoRoom-clause-stays

@@ -21,6 +21,8 @@ It runs what was proved on this machine, or else the release in this repository.
   --address-header NAME           the header in which a proxy tells where a client is, for --log and for the limits of guesses of --users; what stands behind the last comma of the last one counts
   --users FILE                    the users who may log in, a line NAME:HASH for each (docs/USERS.md), read again on SIGHUP; not with --user-header
   --log FILE                      a line for each request is appended to the file, which may be moved away at any moment; - is standard error
+  --log-format common|combined|json
+                                  the form of these lines: the common log format, the combined one with Referer and User-Agent, or JSON
   --read-only                     lets nothing be changed: all but GET, HEAD, OPTIONS and PROPFIND is answered 403
   --realm TEXT                    what a client is told it logs in to; davserve without it
   --longest-timeout SECONDS       the longest time that a lock is given; without it a lock may last for ever

@@ -6,17 +6,11 @@ import re
 import subprocess
 import tempfile
 
-from frames import LONG_BODY, Listener, frame, pieces, request
+from frames import LONG_BODY, Listener, frame, pieces, request, serve
 
 # The clock stands at 06/Nov/1994:08:49:37.
 STANDS = 784111777
 CLOCK = ["--clock", f"{STANDS}000000000"]
-
-
-def serve(program, words, text):
-    """What the program writes, and its status."""
-    ran = subprocess.run([program, *words], input=text, stdout=subprocess.PIPE, stderr=subprocess.DEVNULL, timeout=100, check=False)
-    return ran.stdout, ran.returncode
 
 
 def line_of(user, asked, status, length, address=b"192.0.2.1"):

@@ -29,6 +29,12 @@ def frame(number, piece=b""):
     return b"%d %d\n" % (number, len(piece)) + piece
 
 
+def serve(program, words, text):
+    """What the program writes where all of its input is there at once, and its status."""
+    ran = subprocess.run([program, *words], input=text, stdout=subprocess.PIPE, stderr=subprocess.DEVNULL, timeout=PATIENCE, check=False)
+    return ran.stdout, ran.returncode
+
+
 READY = b"ready\n"
 
 
